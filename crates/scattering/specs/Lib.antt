@@ -1,0 +1,12 @@
+pub mod Collections
+pub mod Series
+pub mod Plane
+pub mod Wall
+pub mod LocalProduct
+pub mod Completion
+pub mod Stops
+pub mod BrokenLine
+pub mod Tail
+pub mod Theta
+pub mod ThetaProduct
+pub mod Laws
