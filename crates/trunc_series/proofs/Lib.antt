@@ -1,0 +1,6 @@
+pub mod Order
+pub mod Kept
+pub mod Coefficients
+pub mod Merging
+pub mod Terms
+pub mod Compare
