@@ -55,28 +55,70 @@ apart k l h = go (key_eq l k) refl
     go false e = refl
     go true e = let c : key_before k k ≡ true = subst (λ (w : Key). key_before k w ≡ true) (key_eq-same l k e) h in absurd (let d = key_before-irrefl k in cc)
 
--- each coefficient of a series is 0 or stands in it, so what each term has, each coefficient has
-pub coef-has : (P : ℤ → Type 0) (f : Sum) → P (pos 0) → EveryPair (λ t u. IsTrue (key_before t.0 u.0)) f → Every (λ t. P t.1) f → (k : Key) → P (coef f k)
+-- ---- where no key stands twice
+
+-- no two keys are one
+abbrev pub Apart : Sum → Type 0
+Apart f = EveryPair (λ t u. key_eq u.0 t.0 ≡ false) f
+
+EveryPair-weaker : {A : Type 0} (R S : A → A → Type 0) (xs : List A) → ((x y : A) → R x y → S x y) → EveryPair R xs → EveryPair S xs
+EveryPair-weaker R S [] i h = tt
+EveryPair-weaker R S (x ∷ xs) i h = (Every-weaker (R x) (S x) xs (i x) h.0, EveryPair-weaker R S xs i h.1)
+
+pub apart-rising : (f : Sum) → EveryPair (λ t u. IsTrue (key_before t.0 u.0)) f → Apart f
+apart-rising f r = EveryPair-weaker (λ (t u : Term). IsTrue (key_before t.0 u.0)) (λ t u. key_eq u.0 t.0 ≡ false) f (λ t u. apart t.0 u.0) r
+
+pub apart-distinct : (f : Sum) → EveryPair (λ t u. t.0 ≢ u.0) f → Apart f
+apart-distinct f d = EveryPair-weaker (λ (t u : Term). t.0 ≢ u.0) (λ t u. key_eq u.0 t.0 ≡ false) f (λ t u n. go t u n (key_eq u.0 t.0) refl) d
+  where
+    go : (t u : Term) → t.0 ≢ u.0 → (b : Bool) → key_eq u.0 t.0 ≡ b → b ≡ false
+    go t u n false e = refl
+    go t u n true e = absurd (n (sym (key_eq-same u.0 t.0 e)))
+
+coef-none_at : (t : Term) (f : Sum) (k : Key) → t.0 ≡ k → Every (λ u. key_eq u.0 t.0 ≡ false) f → coef f k ≡ pos 0
+coef-none_at t f k q a = coef-none f k (subst (λ (w : Key). Every (λ u. key_eq u.0 w ≡ false) f) q a)
+
+-- each coefficient is 0 or stands in the sum, so what each term has, each coefficient has
+pub coef-has : (P : ℤ → Type 0) (f : Sum) → P (pos 0) → Apart f → Every (λ t. P t.1) f → (k : Key) → P (coef f k)
 coef-has P [] z r h k = z
 coef-has P (t ∷ f) z r h k = go (key_eq t.0 k) refl (coef-has P f z r.1 h.1 k)
   where
     go : (b : Bool) → key_eq t.0 k ≡ b → P (coef f k) → P (coef (t ∷ f) k)
-    go true e i =
-        let q : t.0 ≡ k = key_eq-same t.0 k e in
-        let n : coef f k ≡ pos 0 = coef-none f k (Every-weaker _ (λ u. key_eq u.0 k ≡ false) f (λ u b. apart k u.0 (subst (λ (w : Key). key_before w u.0 ≡ true) q b)) r.0) in
-        rw (e, n) (rw (add-zero t.1) h.0)
+    go true e i = rw (e, coef-none_at t f k (key_eq-same t.0 k e) r.0) (rw (add-zero t.1) h.0)
     go false e i = rw (e, skip-zero (coef f k)) i
+
+-- and the other way
+pub has-coef : (P : ℤ → Type 0) (f : Sum) → P (pos 0) → Apart f → ((k : Key) → P (coef f k)) → Every (λ t. P t.1) f
+has-coef P [] z r h = tt
+has-coef P (t ∷ f) z r h = (first, has-coef P f z r.1 (λ k. go k (key_eq t.0 k) refl))
+  where
+    first : P t.1
+    first = subst P (rw (key_eq-refl t.0, coef-none_at t f t.0 refl r.0) (add-zero t.1)) (h t.0)
+
+    go : (k : Key) (b : Bool) → key_eq t.0 k ≡ b → P (coef f k)
+    go k true e = rw (coef-none_at t f k (key_eq-same t.0 k e) r.0) z
+    go k false e = subst P (rw (e) (skip-zero (coef f k))) (h k)
 
 -- no coefficient is above the mass
 abs-add : (x y : ℤ) → nat_abs (x +ℤ y) ≤ nat_abs x + nat_abs y
 abs-add x y = omega (arith, ints)
 
-pub abs-coef : (n : ℕ) (f : Sum) (k : Key) → degree k ≤ n → nat_abs (coef f k) ≤ mass_to n f
-abs-coef n [] k le = omega arith
-abs-coef n (t ∷ f) k le = go (key_eq t.0 k) refl (abs-coef n f k le)
+pub abs-coef : (n : ℕ) (f : Sum) (k : Key) → Every (λ t. degree t.0 ≤ n) f → nat_abs (coef f k) ≤ mass_to n f
+abs-coef n [] k l = omega arith
+abs-coef n (t ∷ f) k l = rw (le-leb (degree t.0) n l.0) (go (key_eq t.0 k) (abs-coef n f k l.1))
   where
-    go : (b : Bool) → key_eq t.0 k ≡ b → nat_abs (coef f k) ≤ mass_to n f → nat_abs (coef (t ∷ f) k) ≤ mass_to n (t ∷ f)
-    go true e h =
-        let low : degree t.0 ≤ n = subst (λ (w : Key). degree w ≤ n) (sym (key_eq-same t.0 k e)) le in
-        rw (e, le-leb (degree t.0) n low) (omega (arith, abs-add t.1 (coef f k), h))
-    go false e h = rw (e, skip-zero (coef f k)) (omega (arith, h))
+    go : (b : Bool) → nat_abs (coef f k) ≤ mass_to n f → nat_abs (cond b t.1 (pos 0) +ℤ coef f k) ≤ nat_abs t.1 + mass_to n f
+    go true h = omega (arith, abs-add t.1 (coef f k), h)
+    go false h = rw (skip-zero (coef f k)) (omega (arith, h))
+
+-- the sum of two
+pub abs-sum : (n : ℕ) (f g : Sum) (k : Key) → Every (λ t. degree t.0 ≤ n) f → Every (λ t. degree t.0 ≤ n) g → nat_abs (coef (f ++ g) k) ≤ mass_to n f + mass_to n g
+abs-sum n f g k l m = rw (coef-append f g k) (omega (arith, abs-add (coef f k) (coef g k), abs-coef n f k l, abs-coef n g k m))
+
+pub Every-left : {A : Type 0} (P : A → Type 0) (xs ys : List A) → Every P (xs ++ ys) → Every P xs
+Every-left P [] ys h = tt
+Every-left P (x ∷ xs) ys h = (h.0, Every-left P xs ys h.1)
+
+pub Every-right : {A : Type 0} (P : A → Type 0) (xs ys : List A) → Every P (xs ++ ys) → Every P ys
+Every-right P [] ys h = h
+Every-right P (x ∷ xs) ys h = Every-right P xs ys h.1

@@ -4,3 +4,5 @@ pub mod Coefficients
 pub mod Merging
 pub mod Terms
 pub mod Compare
+pub mod Exact
+pub mod Bisection

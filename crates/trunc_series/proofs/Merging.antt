@@ -141,6 +141,9 @@ module _ (rule : Arithmetic) where
   merge-rises (t ∷ f) g hf hg = onto-rises (λ h. merge f h) t f g (λ h k. merge-rises f h hf.1 k) (λ k h x y. merge-every (λ u. IsTrue (key_before k u.0)) (λ v w h k n. h) f h x y) hf.0 hf.1 hg
 
   -- ---- all of it
+  pub whole : (c : Sum) → Every (λ t. (kept rule t.1 ≡ t.1) × IsKeepable rule t.1) c → Keepable c
+  whole c e = Every-weaker (λ (t : Term). (kept rule t.1 ≡ t.1) × IsKeepable rule t.1) (λ t. IsKeepable rule t.1) c (λ t i. i.1) e
+
   pub merge-reduced : (n : ℕ) (a b f g : Sum) → IsReduced rule n a f → IsReduced rule n b g → IsReduced rule n (merge a b) (f ++ g)
   merge-reduced n a b f g h k = record {
     series = record {
@@ -156,6 +159,3 @@ module _ (rule : Arithmetic) where
         ∙ kept-same_right rule (coef f l) (coef b l) (coef g l) (keepable-coef rule f l h.keepable) (keepable-coef rule b l (whole b k.keeps)) (keepable-coef rule g l k.keepable) (k.same l)
         ∙ ap (kept rule) (sym (coef-append f g l));
   }
-    where
-      whole : (c : Sum) → Every (λ t. (kept rule t.1 ≡ t.1) × IsKeepable rule t.1) c → Keepable c
-      whole c e = Every-weaker (λ (t : Term). (kept rule t.1 ≡ t.1) × IsKeepable rule t.1) (λ t. IsKeepable rule t.1) c (λ t i. i.1) e

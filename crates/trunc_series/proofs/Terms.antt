@@ -1,17 +1,21 @@
 -- The steps of the program's merge, over lists of its terms.
 use Rattle.std.proofs.Common.{◌≡◌, ◌≢◌, ℕ, ◌+◌, ◌<◌, ◌≤◌, refl, sym, subst, ap, ◌∙◌, Bool, true, false, cond, List, [], ◌∷◌, ◌++◌, length, get_or, take, drop, ◌-◌, add-one, drop-cons, arith, zero, suc, append_assoc, ◌⊎◌, inl, inr}
-use Rattle.std.specs.Prelude.{ℤ, pos, ◌+ℤ◌}
-use Rattle.std.proofs.lemmas.List.{drop_all, take_rest, append-nil}
+use Rattle.std.specs.Prelude.{ℤ, pos, ◌+ℤ◌, ◌==◌, not, IsTrue}
+use Rattle.std.proofs.lemmas.List.{drop_all, take-append-drop, take_rest, append-nil}
 use Rattle.std.proofs.lemmas.Int.{ints}
+use Rattle.std.proofs.Math.Decide.{dec_le}
+use Rattle.std.specs.Ordering.{ordering_index}
 use Rattle.std.specs.declared.cmp.Ordering.{Ordering}
 use Rattle.std.specs.declared.cmp.Ordering.TheVariants.{Less, Equal, Greater}
-use Rattle.scattering.specs.Collections.{Every}
+use Rattle.scattering.specs.Collections.{Every, EveryPair}
 use Rattle.scattering.specs.Series.{Key, Term, Sum, int_eq, key_before}
 use Rattle.trunc_series.specs.declared.key.Key.{Key as CodeKey}
 use Rattle.trunc_series.specs.declared.arithmetic.Arithmetic.{Arithmetic}
 use Rattle.trunc_series.specs.Shown.{key_of, term_of, sum_of}
 use Rattle.trunc_series.specs.Arithmetic.{kept}
 use Rattle.trunc_series.specs.Reduced.{key_order}
+use Rattle.trunc_series.proofs.Order.{key_before-trans}
+use Rattle.trunc_series.proofs.Coefficients.{Every-weaker}
 use Rattle.trunc_series.proofs.Merging.{merge, merge-nil}
 
 abbrev pub no_term : CodeKey × ℤ
@@ -37,17 +41,17 @@ Every-at P (u ∷ a) (suc i) h e = Every-at P a i (omega arith) e.1
 
 -- ---- the order of two keys
 
-is-less : (b c : Bool) → cond b Less (cond c Greater Equal) ≡ Less → b ≡ true
+pub is-less : (b c : Bool) → cond b Less (cond c Greater Equal) ≡ Less → b ≡ true
 is-less true c e = refl
 is-less false true e = absurd (cc)
 is-less false false e = absurd (cc)
 
-is-greater : (b c : Bool) → cond b Less (cond c Greater Equal) ≡ Greater → (b ≡ false) × (c ≡ true)
+pub is-greater : (b c : Bool) → cond b Less (cond c Greater Equal) ≡ Greater → (b ≡ false) × (c ≡ true)
 is-greater true c e = absurd (cc)
 is-greater false true e = (refl, refl)
 is-greater false false e = absurd (cc)
 
-is-equal : (b c : Bool) → cond b Less (cond c Greater Equal) ≡ Equal → (b ≡ false) × (c ≡ false)
+pub is-equal : (b c : Bool) → cond b Less (cond c Greater Equal) ≡ Equal → (b ≡ false) × (c ≡ false)
 is-equal true c e = absurd (cc)
 is-equal false true e = absurd (cc)
 is-equal false false e = (refl, refl)
@@ -101,3 +105,41 @@ pub merge-ended : (rule : Arithmetic) (out a b : List (CodeKey × ℤ)) (i j : �
     → sum_of ((out ++ take (length a - i) (drop i a)) ++ take (length b - j) (drop j b)) ≡ sum_of out ++ merge rule (sum_of (drop i a)) (sum_of (drop j b))
 merge-ended rule out a b i j (inl h) = rw (take_rest a i, take_rest b j) (rw (drop_all i a h) (rw (append-nil out) (sum_of-append out (drop j b))))
 merge-ended rule out a b i j (inr h) = rw (take_rest a i, take_rest b j) (rw (drop_all j b h) (rw (append-nil (out ++ drop i a), merge-nil rule (sum_of (drop i a))) (sum_of-append out (drop i a))))
+
+pub sum_of-halves : (a : List (CodeKey × ℤ)) (n : ℕ) → sum_of a ≡ sum_of (take n a) ++ sum_of (drop n a)
+sum_of-halves a n = ap sum_of (sym (take-append-drop n a)) ∙ sum_of-append (take n a) (drop n a)
+
+-- at most one term is a sorted list
+pub rises-short : (a : List (CodeKey × ℤ)) → length a < 2 → EveryPair (λ t u. IsTrue (key_before t.0 u.0)) (sum_of a)
+rises-short [] h = tt
+rises-short (t ∷ []) h = (tt, tt)
+rises-short (t ∷ u ∷ a) h = absurd (omega arith)
+
+-- each key before the next
+pub rises-adjacent : (a : List (CodeKey × ℤ)) → ((k : ℕ) → suc k < length a → IsTrue (key_before (key_of (at a k).0) (key_of (at a (suc k)).0))) → EveryPair (λ t u. IsTrue (key_before t.0 u.0)) (sum_of a)
+rises-adjacent [] h = tt
+rises-adjacent (t ∷ []) h = (tt, tt)
+rises-adjacent (t ∷ u ∷ a) h =
+    let r = rises-adjacent (u ∷ a) (λ k l. h (suc k) (omega arith)) in
+    let first : key_before (key_of t.0) (key_of u.0) ≡ true = h 0 (omega arith) in
+    ((first, Every-weaker (λ (v : Term). IsTrue (key_before (key_of u.0) v.0)) (λ v. IsTrue (key_before (key_of t.0) v.0)) (sum_of a) (λ v b. key_before-trans (key_of t.0) (key_of u.0) v.0 first b) r.0), r)
+
+pub less-before : (k l : Key) → key_order k l ≡ Less → key_before k l ≡ true
+less-before k l e = is-less _ _ e
+
+pub index-less : (o : Ordering) → not (ordering_index o == 0) ≡ false → o ≡ Less
+index-less Less e = refl
+index-less Equal e = absurd (cc)
+index-less Greater e = absurd (cc)
+
+-- one index more
+pub adjacent-more : (a : List (CodeKey × ℤ)) (i : ℕ) → 1 ≤ i → ((k : ℕ) → suc k < i → IsTrue (key_before (key_of (at a k).0) (key_of (at a (suc k)).0))) → key_order (key_of (at a (i - 1)).0) (key_of (at a i).0) ≡ Less
+    → (k : ℕ) → suc k < i + 1 → IsTrue (key_before (key_of (at a k).0) (key_of (at a (suc k)).0))
+adjacent-more a i one h e k l = go (dec_le (suc (suc k)) i)
+  where
+    go : Dec (suc (suc k) ≤ i) → IsTrue (key_before (key_of (at a k).0) (key_of (at a (suc k)).0))
+    go (yes y) = h k (omega (arith, y))
+    go (no n) =
+        let p : i ≡ suc k = omega (arith, n) in
+        let q : i - 1 ≡ k = omega (arith, n) in
+        less-before (key_of (at a k).0) (key_of (at a (suc k)).0) (subst (λ (m : ℕ). key_order (key_of (at a k).0) (key_of (at a m).0) ≡ Less) p (subst (λ (m : ℕ). key_order (key_of (at a m).0) (key_of (at a i).0) ≡ Less) q e))

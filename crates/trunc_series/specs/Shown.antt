@@ -2,9 +2,9 @@
 --     key_of, sum_of           a key, and a list of terms, of the program
 --     Seen                     what contracts see of a series: its order and its terms
 --     IsSeriesOf s n f         s is the series of order n with the coefficients of f
-use Rattle.std.specs.Prelude.{◌≡◌, ℕ, ◌<◌, ◌≤◌, ◌^◌, ℤ, nat_abs, List, map, slice_index}
+use Rattle.std.specs.Prelude.{◌≡◌, ℕ, ◌<◌, ◌≤◌, ◌^◌, ◌≢◌, ℤ, pos, nat_abs, List, map, slice_index}
 use Rattle.scattering.specs.Collections.{Every}
-use Rattle.scattering.specs.Series.{Exp, Powers, Key, Term, Sum, IsSeries, Same}
+use Rattle.scattering.specs.Series.{Exp, Powers, Key, Term, Sum, IsSeries, Same, degree}
 use Rattle.trunc_series.specs.declared.key.Exp.{Exp as CodeExp}
 use Rattle.trunc_series.specs.declared.key.Key.{Key as CodeKey}
 
@@ -33,6 +33,10 @@ pub record IsSeriesOf (s : Seen) (n : ℕ) (f : Sum) : Type 0 where
   pub order : s.order ≡ n
   pub series : IsSeries n s.terms
   pub same : Same s.terms f
+
+-- a term of a series of order n
+abbrev pub IsTerm : ℕ → Term → Type 0
+IsTerm n t = (t.1 ≢ pos 0) × (nat_abs t.1 < 2 ^ 127) × (degree t.0 ≤ n)
 
 -- what each value keeps; with the least number of 128 bits left out, absolute values fit too
 pub record IsValid (n : ℕ) (f : Sum) : Type 0 where

@@ -22,8 +22,14 @@ pub struct Key {
 }
 
 impl Key {
+    /// The constant key: no power, and exponent 0.
+    pub(crate) const ONE: Key = Key {
+        exp: Exp { a: 0, b: 0 },
+        powers: [0; 8],
+    };
+
     /// The sum of the powers.
-    pub fn degree(&self) -> u32
+    pub(crate) fn degree(&self) -> u32
         ensures value { result ≡ degree (key_of self.now) }
         ensures small { result ≤ 2040 }
     {
@@ -33,6 +39,7 @@ impl Key {
     }
 }
 
+/// How two keys stand.
 pub fn compare(k: &Key, l: &Key) -> Ordering
     ensures { result ≡ key_order (key_of k.now) (key_of l.now) }
 {

@@ -10,3 +10,6 @@ mod series;
 
 pub use key::{Exp, Key};
 pub use series::Series;
+
+#[cfg(test)]
+mod tests;
