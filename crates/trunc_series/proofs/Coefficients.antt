@@ -75,7 +75,7 @@ apart-distinct f d = EveryPair-weaker (λ (t u : Term). t.0 ≢ u.0) (λ t u. ke
     go t u n false e = refl
     go t u n true e = absurd (n (sym (key_eq-same u.0 t.0 e)))
 
-coef-none_at : (t : Term) (f : Sum) (k : Key) → t.0 ≡ k → Every (λ u. key_eq u.0 t.0 ≡ false) f → coef f k ≡ pos 0
+pub coef-none_at : (t : Term) (f : Sum) (k : Key) → t.0 ≡ k → Every (λ u. key_eq u.0 t.0 ≡ false) f → coef f k ≡ pos 0
 coef-none_at t f k q a = coef-none f k (subst (λ (w : Key). Every (λ u. key_eq u.0 w ≡ false) f) q a)
 
 -- each coefficient is 0 or stands in the sum, so what each term has, each coefficient has

@@ -1,6 +1,6 @@
 -- Numbers as they are kept: to keep them on the way changes nothing.
 use Rattle.std.proofs.Common.{◌≡◌, ℕ, refl, sym, ap, ◌∙◌, arith, FitsSigned}
-use Rattle.std.specs.Prelude.{ℤ, pos, ◌+ℤ◌, ◌≤ℤ◌, int_lt, Bool, true, false, cond, ◌^◌}
+use Rattle.std.specs.Prelude.{ℤ, pos, negsuc, ◌+ℤ◌, ◌*ℤ◌, ◌≤ℤ◌, int_lt, Bool, true, false, cond, ◌^◌}
 use Rattle.std.specs.Int.{int_wrap, int_min}
 use Rattle.std.proofs.lemmas.Int.{ints, clamps, int_wrap-add_left, int_wrap-add_right, int_wrap_fits, SFits-int_wrap, fits_signed_from_abs}
 use mir.Syntax.{w128}
@@ -42,3 +42,9 @@ kept-same_right rule x y z h k l e = sym (kept-add_right rule x y h k) ∙ ap (�
 
 pub kept-same_left : (rule : Arithmetic) (x y z : ℤ) → IsKeepable rule x → IsKeepable rule y → IsKeepable rule z → kept rule x ≡ kept rule y → kept rule (x +ℤ z) ≡ kept rule (y +ℤ z)
 kept-same_left rule x y z h k l e = sym (kept-add_left rule x z h l) ∙ ap (λ w. kept rule (w +ℤ z)) e ∙ kept-add_left rule y z k l
+
+pub keepable-mul : (rule : Arithmetic) (x y : ℤ) → IsKeepable rule x → IsKeepable rule y → IsKeepable rule (x *ℤ y)
+keepable-mul Wrapping x y h k = tt
+keepable-mul Saturating (pos m) (pos n) h k = omega (arith, ints)
+keepable-mul Saturating (negsuc m) y h k = absurd (omega (arith, ints))
+keepable-mul Saturating (pos m) (negsuc n) h k = absurd (omega (arith, ints))

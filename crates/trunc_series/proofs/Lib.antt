@@ -6,3 +6,5 @@ pub mod Terms
 pub mod Compare
 pub mod Exact
 pub mod Bisection
+pub mod Mass
+pub mod Rows

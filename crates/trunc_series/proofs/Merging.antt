@@ -77,7 +77,7 @@ module _ (rule : Arithmetic) where
       go false = refl
 
   -- a term that is 0 counts for nothing
-  add_term-coef : (k : Key) (t : Term) (f : Sum) → coef (add_term t f) k ≡ coef_at k t +ℤ coef f k
+  pub add_term-coef : (k : Key) (t : Term) (f : Sum) → coef (add_term t f) k ≡ coef_at k t +ℤ coef f k
   add_term-coef k t f = go (int_eq t.1 (pos 0)) refl
     where
       go : (b : Bool) → int_eq t.1 (pos 0) ≡ b → coef (cond b f (t ∷ f)) k ≡ coef_at k t +ℤ coef f k
