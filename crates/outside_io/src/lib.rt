@@ -79,3 +79,6 @@ impl Gate for OpenGate {
 
     fn at_answer(&self, _reader: u32, _query: u32) {}
 }
+
+#[cfg(test)]
+mod tests;

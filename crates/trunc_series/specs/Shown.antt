@@ -1,0 +1,49 @@
+-- Series as the definitions see them.
+--     key_of, sum_of           a key, and a list of terms, of the program
+--     Seen                     what contracts see of a series: its order and its terms
+--     IsSeriesOf s n f         s is the series of order n with the coefficients of f
+use Rattle.std.specs.Prelude.{◌≡◌, ℕ, ◌<◌, ◌≤◌, ◌^◌, ◌≢◌, ℤ, pos, nat_abs, List, map, slice_index}
+use Rattle.scattering.specs.Collections.{Every}
+use Rattle.scattering.specs.Series.{Exp, Powers, Key, Term, Sum, IsSeries, Same, degree}
+use Rattle.trunc_series.specs.declared.key.Exp.{Exp as CodeExp}
+use Rattle.trunc_series.specs.declared.key.Key.{Key as CodeKey}
+
+abbrev pub exp_of : CodeExp → Exp
+exp_of e = record { a = e.a; b = e.b }
+
+abbrev pub powers_of : List ℕ → Powers
+powers_of ps = record { t1 = slice_index ps 0; t2 = slice_index ps 1; t3 = slice_index ps 2; t4 = slice_index ps 3; t5 = slice_index ps 4; t6 = slice_index ps 5; t7 = slice_index ps 6; t8 = slice_index ps 7 }
+
+abbrev pub key_of : CodeKey → Key
+key_of k = record { powers = powers_of k.powers; exp = exp_of k.exp }
+
+abbrev pub term_of : CodeKey × ℤ → Term
+term_of t = (key_of t.0, t.1)
+
+abbrev pub sum_of : List (CodeKey × ℤ) → Sum
+sum_of ts = map term_of ts
+
+-- what contracts see of a series
+pub record Seen : Type 0 where
+  pub order : ℕ
+  pub terms : Sum
+
+-- the one series of order n that has the coefficients of f
+pub record IsSeriesOf (s : Seen) (n : ℕ) (f : Sum) : Type 0 where
+  pub order : s.order ≡ n
+  pub series : IsSeries n s.terms
+  pub same : Same s.terms f
+
+-- a term of a series of order n
+abbrev pub IsTerm : ℕ → Term → Type 0
+IsTerm n t = (t.1 ≢ pos 0) × (nat_abs t.1 < 2 ^ 127) × (degree t.0 ≤ n)
+
+-- what each value keeps; with the least number of 128 bits left out, absolute values fit too
+pub record IsValid (n : ℕ) (f : Sum) : Type 0 where
+  pub order : n ≤ 24
+  pub series : IsSeries n f
+  pub small : Every (λ t. nat_abs t.1 < 2 ^ 127) f
+
+-- no exponent is above 2^16 in absolute value
+abbrev pub IsNear : Sum → Type 0
+IsNear f = Every (λ t. (nat_abs t.0.exp.a ≤ 2 ^ 16) × (nat_abs t.0.exp.b ≤ 2 ^ 16)) f

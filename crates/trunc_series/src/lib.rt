@@ -1,0 +1,15 @@
+//! Truncated series: finite maps from keys to nonzero whole numbers, modulo a degree. A key is the
+//! powers of t1 to t8 and an exponent of z, its degree is the sum of the powers. Contracts see a series
+//! as its order and its terms, over the definitions of formal sums.
+#![tactic(auto)]
+
+mod arithmetic;
+mod key;
+mod merge;
+mod series;
+
+pub use key::{Exp, Key};
+pub use series::Series;
+
+#[cfg(test)]
+mod tests;

@@ -1,0 +1,102 @@
+// Sorted lists of terms made from lists of terms: like terms added, none with coefficient 0.
+
+ghost use Rattle.std.specs.Prelude.{◌++◌, ℕ, IfOk, IsTrue, filter, nat_le, ◌≡◌};
+ghost use Rattle.scattering.specs.Collections.{Every, EveryPair};
+ghost use Rattle.scattering.specs.Series.{Sum, key_before, degree};
+ghost use Rattle.trunc_series.specs.Shown.{key_of, sum_of, IsTerm};
+ghost use Rattle.trunc_series.specs.Arithmetic.{IsKeepable};
+ghost use Rattle.trunc_series.specs.Reduced.{IsReduced};
+
+use crate::Key;
+use crate::arithmetic::{Arithmetic, sum};
+use crate::key::compare;
+use std::alloc::{AllocError, Global};
+use std::cmp::Ordering;
+
+/// The terms of two sorted lists as one.
+pub fn merged(
+    alloc: Global,
+    rule: Arithmetic,
+    a: &[(Key, i128)],
+    b: &[(Key, i128)],
+) -> Result<Vec<(Key, i128)>, AllocError>
+    requires left { Every (λ t. IsKeepable rule t.1) (sum_of a.now) }
+    requires right { Every (λ t. IsKeepable rule t.1) (sum_of b.now) }
+    ensures { IfOk result (λ r. (n : ℕ) (f g : Sum) → IsReduced rule n (sum_of a.now) f → IsReduced rule n (sum_of b.now) g → IsReduced rule n (sum_of r.items) (f ++ g)) }
+{
+    let mut out = Vec::with_capacity(alloc, a.len() + b.len())?;
+    let mut i = 0;
+    let mut j = 0;
+    'merge: while i < a.len() && j < b.len() {
+        let x = &a[i];
+        let y = &b[j];
+        match compare(&x.0, &y.0) {
+            Ordering::Less => {
+                out.push(*x)?;
+                i += 1;
+            }
+            Ordering::Greater => {
+                out.push(*y)?;
+                j += 1;
+            }
+            Ordering::Equal => {
+                let c = sum(rule, &x.1, &y.1);
+                if c != 0 {
+                    out.push((x.0, c))?;
+                }
+                i += 1;
+                j += 1;
+            }
+        }
+    }
+    out.extend_from_slice(&a[i..])?;
+    out.extend_from_slice(&b[j..])?;
+    Ok(out)
+}
+
+/// Terms in any order as a sorted list, those of one key added modulo 2^128.
+pub fn collected(
+    alloc: Global,
+    order: u32,
+    terms: &[(Key, i128)],
+) -> Result<Vec<(Key, i128)>, AllocError>
+    requires { Every (IsTerm order) (sum_of terms.now) }
+    ensures { IfOk result (λ r. IsReduced Arithmetic.Wrapping order (sum_of r.items) (sum_of terms.now)) }
+{
+    if terms.len() < 2 {
+        return Vec::from_slice(alloc, terms);
+    }
+    let (left, right) = terms.split_at(terms.len() / 2);
+    let left = collected(alloc, order, left)?;
+    let right = collected(alloc, order, right)?;
+    merged(
+        alloc,
+        Arithmetic::Wrapping,
+        left.as_slice(),
+        right.as_slice(),
+    )
+}
+
+/// Whether the keys rise.
+pub fn rises(terms: &[(Key, i128)]) -> bool
+    ensures { IsTrue result → EveryPair (λ t u. IsTrue (key_before t.0 u.0)) (sum_of terms.now) }
+{
+    for i in 1..terms.len() {
+        if compare(&terms[i - 1].0, &terms[i].0) != Ordering::Less {
+            return false;
+        }
+    }
+    true
+}
+
+/// The terms of degree at most `order`.
+pub fn low_terms(
+    alloc: Global,
+    order: u32,
+    terms: &[(Key, i128)],
+) -> Result<Vec<(Key, i128)>, AllocError>
+    ensures { IfOk result (λ r. r.items ≡ filter (λ t. nat_le (degree (key_of t.0)) order) terms.now) }
+{
+    let low = terms.iter().filter(|t| t.0.degree() <= order);
+    low.copied().collect(alloc)
+}

@@ -1,0 +1,168 @@
+// Series with exact coefficients.
+
+ghost use Rattle.std.specs.Prelude.{◌≡◌, ◌≢◌, ◌≤◌, ◌<◌, ◌+◌, ◌^◌, [], ◌∷◌, ◌++◌, pos, nat_abs, IfOk};
+ghost use Rattle.scattering.specs.Collections.{Every, EveryPair};
+ghost use Rattle.scattering.specs.Series.{IsSeries, one, coef, cut, mass_to};
+ghost use Rattle.trunc_series.specs.Shown.{key_of, sum_of, IsTerm, IsSeriesOf, IsValid};
+
+use crate::arithmetic::Arithmetic;
+use crate::key::{Key, compare};
+use crate::merge::{collected, low_terms, merged, rises};
+use std::alloc::{AllocError, Global};
+use std::cmp::Ordering;
+use std::marker::Model;
+
+/// A series of an order from 0 to 24: a finite map from keys of degree at most the order to nonzero
+/// whole numbers of 128 bits. Its terms stand sorted by their keys.
+#[derive(Drop)]
+pub struct Series {
+    alloc: Global,
+    order: u32,
+    terms: Vec<(Key, i128)>,
+}
+
+impl Model for Series {
+    ghost use Rattle.trunc_series.specs.Shown.{Seen, sum_of, IsValid};
+
+    ghost Value = { Seen };
+
+    ghost view = { λ s. record { order = s.order; terms = sum_of s.terms.items } };
+
+    ghost invariant = { λ s. IsValid s.order (sum_of s.terms.items) };
+}
+
+impl Series {
+    /// 0, with no term.
+    pub fn zero(alloc: Global, order: u32) -> Result<Series, AllocError>
+        requires { order ≤ 24 }
+        ensures { IfOk result (λ s. IsSeriesOf s order []) }
+    {
+        let terms = Vec::new(alloc);
+        Ok(Series {
+            alloc,
+            order,
+            terms,
+        })
+    }
+
+    /// 1, the term at the constant key.
+    pub fn one(alloc: Global, order: u32) -> Result<Series, AllocError>
+        requires { order ≤ 24 }
+        ensures { IfOk result (λ s. IsSeriesOf s order one) }
+    {
+        Series::monomial(alloc, order, Key::ONE, 1)
+    }
+
+    /// The series with the term of `key` and `c`, or 0 where `c` is 0 or the key's degree is above the
+    /// order.
+    pub fn monomial(alloc: Global, order: u32, key: Key, c: i128) -> Result<Series, AllocError>
+        requires order { order ≤ 24 }
+        requires coefficient { nat_abs c ≤ 2 ^ 126 }
+        ensures { IfOk result (λ s. IsSeriesOf s order (cut order ((key_of key, c) ∷ []))) }
+    {
+        let mut terms = Vec::new(alloc);
+        if c != 0 && key.degree() <= order {
+            terms.push((key, c))?;
+        }
+        Ok(Series {
+            alloc,
+            order,
+            terms,
+        })
+    }
+
+    /// The series with exactly these terms, in whatever order they come. A series is read at a higher
+    /// order by passing its own terms.
+    pub fn from_terms(
+        alloc: Global,
+        order: u32,
+        terms: &[(Key, i128)],
+    ) -> Result<Series, AllocError>
+        requires order { order ≤ 24 }
+        requires distinct { EveryPair (λ t u. t.0 ≢ u.0) (sum_of terms.now) }
+        requires each { Every (IsTerm order) (sum_of terms.now) }
+        ensures { IfOk result (λ s. IsSeriesOf s order (sum_of terms.now)) }
+    {
+        let terms = if rises(terms) {
+            Vec::from_slice(alloc, terms)?
+        } else {
+            collected(alloc, order, terms)?
+        };
+        Ok(Series {
+            alloc,
+            order,
+            terms,
+        })
+    }
+
+    pub fn order(&self) -> u32
+        ensures { result ≡ self.now.order }
+    {
+        self.order
+    }
+
+    /// The terms, sorted by their keys: by the exponent's a, then its b, then the powers. No coefficient
+    /// is 0 and no key stands twice.
+    pub fn terms(&self) -> &[(Key, i128)]
+        ensures terms { sum_of result.now ≡ self.now.terms }
+        ensures valid { IsValid self.now.order self.now.terms }
+    {
+        self.terms.as_slice()
+    }
+
+    /// The coefficient at a key, by bisection.
+    pub fn coefficient(&self, key: &Key) -> i128
+        ensures { result ≡ coef self.now.terms (key_of key.now) }
+    {
+        let terms = self.terms.as_slice();
+        let mut low = 0;
+        let mut high = terms.len();
+        'search: while low < high {
+            let middle = low + (high - low) / 2;
+            match compare(&terms[middle].0, key) {
+                Ordering::Less => low = middle + 1,
+                Ordering::Greater => high = middle,
+                Ordering::Equal => return terms[middle].1,
+            }
+        }
+        0
+    }
+
+    pub fn add(&self, other: &Series) -> Result<Series, AllocError>
+        requires order { other.now.order ≡ self.now.order }
+        requires mass { mass_to self.now.order self.now.terms + mass_to other.now.order other.now.terms ≤ 2 ^ 126 }
+        ensures { IfOk result (λ s. IsSeriesOf s self.now.order (self.now.terms ++ other.now.terms)) }
+    {
+        let left = self.terms.as_slice();
+        let right = other.terms.as_slice();
+        let terms = merged(self.alloc, Arithmetic::Wrapping, left, right)?;
+        Ok(Series {
+            alloc: self.alloc,
+            order: self.order,
+            terms,
+        })
+    }
+
+    /// The terms of degree at most `order`.
+    pub fn truncate(&self, order: u32) -> Result<Series, AllocError>
+        requires { order ≤ self.now.order }
+        ensures { IfOk result (λ s. IsSeriesOf s order (cut order self.now.terms)) }
+    {
+        let terms = low_terms(self.alloc, order, self.terms.as_slice())?;
+        Ok(Series {
+            alloc: self.alloc,
+            order,
+            terms,
+        })
+    }
+
+    pub fn copy(&self) -> Result<Series, AllocError>
+        ensures { IfOk result (λ s. s ≡ self.now) }
+    {
+        Ok(Series {
+            alloc: self.alloc,
+            order: self.order,
+            terms: Vec::from_slice(self.alloc, self.terms.as_slice())?,
+        })
+    }
+}

@@ -1,0 +1,39 @@
+// Worked results at order 2, over 1 and t1*x.
+
+use super::*;
+use std::test::Fail;
+
+const ONE: Key = Key::ONE;
+
+const X: Key = Key {
+    exp: Exp { a: 1, b: 0 },
+    powers: [1, 0, 0, 0, 0, 0, 0, 0],
+};
+
+const XX: Key = Key {
+    exp: Exp { a: 2, b: 0 },
+    powers: [2, 0, 0, 0, 0, 0, 0, 0],
+};
+
+fn shared<T: Send + Sync>(_: &T) {}
+
+#[test]
+fn series_are_made_and_cut(rt: HostRuntime) -> Result<(), Fail> {
+    let alloc = rt.alloc();
+    assert_eq!(rt; Series::zero(alloc, 2)?.terms(), [].as_slice());
+    assert_eq!(rt; Series::one(alloc, 2)?.terms(), [(ONE, 1)].as_slice());
+    assert_eq!(rt;
+        Series::monomial(alloc, 2, X, 3)?.terms(),
+        [(X, 3)].as_slice()
+    );
+    let given = [(XX, 1), (ONE, 1), (X, -1)];
+    let series = Series::from_terms(alloc, 2, &given)?;
+    shared(&series);
+    assert_eq!(rt; series.terms(), [(ONE, 1), (X, -1), (XX, 1)].as_slice());
+    assert_eq!(rt;
+        series.copy()?.truncate(1)?.terms(),
+        [(ONE, 1), (X, -1)].as_slice()
+    );
+    assert_eq!(rt; [series.coefficient(&X), series.coefficient(&XX)], [-1, 1]);
+    Ok(())
+}
