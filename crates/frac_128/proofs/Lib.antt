@@ -1,0 +1,6 @@
+pub mod Coprime
+pub mod Lowest
+pub mod Divided
+pub mod Seen
+pub mod Rests
+pub mod Sum

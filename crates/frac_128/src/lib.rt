@@ -1,0 +1,60 @@
+//! Exact fractions whose numerator and denominator are 128-bit whole numbers.
+#![tactic(auto)]
+
+ghost use Rattle.std.specs.Prelude.{◌≡◌, ℕ, ℤ, ◌↔◌, ◌≤ℤ◌, ◌+ℤ◌, ◌*ℤ◌, pos, nat_abs, IsSome, IfSome};
+ghost use Rattle.std.specs.Int.{IsGcd};
+ghost use Rattle.frac_128.specs.Quotient.{IsLowest, AreEqual, SumFits, LowestFits};
+
+mod divisor;
+mod order;
+mod text;
+
+pub use divisor::gcd;
+use divisor::without_common_divisor;
+
+/// The number num/den, in lowest terms with den at least 1, so that equal numbers have equal fields.
+#[derive(Clone, Copy)]
+pub struct Fraction {
+    pub num: i128,
+    pub den: i128,
+    pub ghost lowest: { IsLowest num den },
+}
+
+impl Fraction {
+    /// num/den in lowest terms.
+    pub fn new(num: i128, den: i128) -> Fraction
+        requires { pos 1 ≤ℤ den }
+        ensures { AreEqual result.num result.den num den }
+    {
+        let (num, den) = without_common_divisor(num, den);
+        Fraction { num, den }
+    }
+
+    /// The sum, or None where a number on the way to it over the least common denominator leaves
+    /// 128 bits: either numerator brought to that denominator, their sum, or that denominator.
+    pub fn checked_add(self, other: Fraction) -> Option<Fraction>
+        ensures sum { IfSome result (λ s. AreEqual s.num s.den (self.num *ℤ other.den +ℤ other.num *ℤ self.den) (self.den *ℤ other.den)) }
+        ensures fits { IsSome result ↔ ((g : ℕ) → IsGcd (nat_abs self.den) (nat_abs other.den) g → SumFits self.num self.den other.num other.den g) }
+    {
+        let (own, others) = without_common_divisor(self.den, other.den);
+        let left = self.num.checked_mul(others)?;
+        let right = other.num.checked_mul(own)?;
+        let num = left.checked_add(right)?;
+        let den = self.den.checked_mul(others)?;
+        Some(Fraction::new(num, den))
+    }
+
+    /// The product, or None where its numerator or denominator in lowest terms leaves 128 bits.
+    pub fn checked_mul(self, other: Fraction) -> Option<Fraction>
+        ensures product { IfSome result (λ p. AreEqual p.num p.den (self.num *ℤ other.num) (self.den *ℤ other.den)) }
+        ensures fits { IsSome result ↔ LowestFits (self.num *ℤ other.num) (self.den *ℤ other.den) }
+    {
+        // Either numerator loses what it shares with the other denominator, so that the factors
+        // multiply to the numbers of the product in lowest terms.
+        let (a, d) = without_common_divisor(self.num, other.den);
+        let (c, b) = without_common_divisor(other.num, self.den);
+        let num = a.checked_mul(c)?;
+        let den = b.checked_mul(d)?;
+        Some(Fraction { num, den })
+    }
+}

@@ -1,0 +1,58 @@
+//! The text of a fraction, read and printed.
+
+ghost use Rattle.std.specs.Prelude.{◌≡◌, ◌≢◌, ℤ, IfOk, MatchOption, FitsSigned};
+ghost use Rattle.std.specs.Int.{w128};
+ghost use Rattle.std.specs.Fmt.{signed_decimal};
+ghost use Rattle.frac_128.specs.Quotient.{IsLowest};
+ghost use Rattle.frac_128.specs.Text.{fraction_text};
+
+use crate::{Fraction, gcd};
+use itoa::Buffer;
+use std::alloc::{AllocError, Global};
+use std::str;
+
+impl Fraction {
+    /// The fraction that prints as `text`, or None where there is none.
+    pub fn read(text: &[u8]) -> Option<Fraction>
+        ensures { MatchOption result ((num den : ℤ) → IsLowest num den → FitsSigned w128 num → FitsSigned w128 den → text.now ≢ fraction_text num den) (λ f. text.now ≡ fraction_text f.num f.den) }
+    {
+        let Some(slash) = text.iter().position(|b| *b == b'/') else {
+            let num = read_number(text)?;
+            return Some(Fraction { num, den: 1 });
+        };
+        let num = read_number(&text[..slash])?;
+        let den = read_number(&text[slash + 1..])?;
+        if den >= 2 && gcd(num.unsigned_abs(), den.unsigned_abs()) == 1 {
+            Some(Fraction { num, den })
+        } else {
+            None
+        }
+    }
+
+    /// `P`, or `P/Q` with Q at least 2, in decimal.
+    pub fn print(self, alloc: Global) -> Result<Vec<u8>, AllocError>
+        ensures { IfOk result (λ text. text.items ≡ fraction_text self.num self.den) }
+    {
+        let mut buffer = Buffer::new();
+        let mut text = Vec::from_slice(alloc, buffer.format(self.num).as_bytes())?;
+        if self.den != 1 {
+            text.push(b'/')?;
+            text.extend_from_slice(buffer.format(self.den).as_bytes())?;
+        }
+        Ok(text)
+    }
+}
+
+/// The number that prints as `text`, or None where there is none.
+fn read_number(text: &[u8]) -> Option<i128>
+    ensures { MatchOption result ((n : ℤ) → FitsSigned w128 n → text.now ≢ signed_decimal n) (λ n. text.now ≡ signed_decimal n) }
+{
+    let number = str::from_utf8(text).ok()?.parse::<i128>().ok()?;
+    // `parse` also takes a leading `+`, leading zeros and `-0`.
+    let mut buffer = Buffer::new();
+    if buffer.format(number).as_bytes() == text {
+        Some(number)
+    } else {
+        None
+    }
+}
