@@ -1,7 +1,7 @@
 -- Common divisors of products.
 use Rattle.std.proofs.Common.{◌≡◌, ℕ, zero, suc, refl, sym, ap, subst, ◌∙◌, ◌+◌, ◌*◌, ◌/◌, ◌%◌, ◌≤◌, ◌<◌, arith}
 use Rattle.std.specs.Int.{◌∣◌, IsGcd}
-use Rattle.std.proofs.Math.Nat.{one-dvd, dvd-mul_left, dvd-mul_left_of_dvd, dvd_of_mul-dvd-mul_left, mul-dvd-mul_left, mul-le-mul_left}
+use Rattle.std.proofs.Math.Nat.{one-dvd, dvd-mul_left, dvd_of_mul-dvd-mul_left, mul-dvd-mul_left, mul-le-mul_left}
 use Rattle.std.proofs.lemmas.Nat.{mod-mul-add}
 use Rattle.std.proofs.lemmas.Nat.Gcd.{dvd_trans, dvd-zero, IsGcd-from_zero, IsGcd-from_mod, IsGcd-swap, same_from_IsGcd}
 
@@ -74,6 +74,6 @@ coprime-quotients a b g p q l h e f = (
   one-dvd p,
   one-dvd q,
   λ d dp dq.
-    let k = h.2 (g * d) (subst (λ (n : ℕ). (g * d) ∣ n) (sym e) (mul-dvd-mul_left d g dp)) (subst (λ (n : ℕ). (g * d) ∣ n) (sym f) (mul-dvd-mul_left d g dq)) in
-    dvd_of_mul-dvd-mul_left {k = g} d l (subst (λ (n : ℕ). (g * d) ∣ n) (sym (times-one g)) k),
+      let k = h.2 (g * d) (subst (λ (n : ℕ). (g * d) ∣ n) (sym e) (mul-dvd-mul_left d g dp)) (subst (λ (n : ℕ). (g * d) ∣ n) (sym f) (mul-dvd-mul_left d g dq)) in
+      dvd_of_mul-dvd-mul_left {k = g} d l (subst (λ (n : ℕ). (g * d) ∣ n) (sym (times-one g)) k),
 )

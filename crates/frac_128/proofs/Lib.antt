@@ -4,3 +4,5 @@ pub mod Divided
 pub mod Seen
 pub mod Rests
 pub mod Sum
+pub mod Decimal
+pub mod Reading

@@ -1,12 +1,12 @@
 -- Quotients in lowest terms: how they come about, and that there is one for each number.
-use Rattle.std.proofs.Common.{◌≡◌, ℕ, zero, suc, refl, sym, ap, subst, ◌∙◌, ◌*◌, ◌≤◌, ◌<◌, List, [], ◌∷◌, arith}
-use Rattle.std.specs.Prelude.{ℤ, pos, negsuc, ◌+ℤ◌, ◌*ℤ◌, ◌≤ℤ◌, nat_abs, FitsSigned}
+use Rattle.std.proofs.Common.{◌≡◌, ℕ, zero, suc, refl, sym, ap, subst, ◌∙◌, ◌*◌, ◌≤◌, [], ◌∷◌, arith}
+use Rattle.std.specs.Prelude.{ℤ, pos, negsuc, ◌*ℤ◌, ◌≤ℤ◌, nat_abs, FitsSigned}
 use Rattle.std.specs.Int.{◌∣◌, IsGcd, w128}
-use Rattle.std.proofs.Math.Nat.{dvd-mul_left, dvd-mul_right, dvd-mul_left_of_dvd, eq_of_mul-eq-mul_right}
+use Rattle.std.proofs.Math.Nat.{dvd-mul_left, eq_of_mul-eq-mul_right}
 use Rattle.std.proofs.lemmas.Int.{ints, unsigned_abs-mul}
 use Rattle.std.proofs.lemmas.Nat.Gcd.{dvd_antisymm}
 use Rattle.sum_algebra.specs.Ring.{var, ring}
-use Rattle.sum_algebra.specs.RingUse.{ints_ring, ◌:*◌, ◌:+◌}
+use Rattle.sum_algebra.specs.RingUse.{ints_ring, ◌:*◌}
 use Rattle.frac_128.specs.Quotient.{IsLowest, AreEqual, IsReduced, LowestFits}
 use Rattle.frac_128.proofs.Coprime.{dvd_other_factor, coprime-swap, coprime-divisors, coprime-mul, coprime-quotients}
 

@@ -13,7 +13,7 @@ pub use divisor::gcd;
 use divisor::without_common_divisor;
 
 /// The number num/den, in lowest terms with den at least 1, so that equal numbers have equal fields.
-#[derive(Clone, Copy)]
+#[derive(Clone, Copy, Debug, PartialEq, Eq)]
 pub struct Fraction {
     pub num: i128,
     pub den: i128,
@@ -58,3 +58,6 @@ impl Fraction {
         Some(Fraction { num, den })
     }
 }
+
+#[cfg(test)]
+mod tests;

@@ -1,10 +1,10 @@
 //! The text of a fraction, read and printed.
 
-ghost use Rattle.std.specs.Prelude.{◌≡◌, ◌≢◌, ℤ, IfOk, MatchOption, FitsSigned};
+ghost use Rattle.std.specs.Prelude.{◌≡◌, ◌≢◌, ℤ, pos, ◌≤ℤ◌, IfOk, MatchOption, FitsSigned};
 ghost use Rattle.std.specs.Int.{w128};
 ghost use Rattle.std.specs.Fmt.{signed_decimal};
 ghost use Rattle.frac_128.specs.Quotient.{IsLowest};
-ghost use Rattle.frac_128.specs.Text.{fraction_text};
+ghost use Rattle.frac_128.specs.Text.{fraction_text, IsPair};
 
 use crate::{Fraction, gcd};
 use itoa::Buffer;
@@ -12,20 +12,17 @@ use std::alloc::{AllocError, Global};
 use std::str;
 
 impl Fraction {
-    /// The fraction that prints as `text`, or None where there is none.
+    /// The fraction that prints as `text`, or None where no fraction does.
     pub fn read(text: &[u8]) -> Option<Fraction>
         ensures { MatchOption result ((num den : ℤ) → IsLowest num den → FitsSigned w128 num → FitsSigned w128 den → text.now ≢ fraction_text num den) (λ f. text.now ≡ fraction_text f.num f.den) }
     {
-        let Some(slash) = text.iter().position(|b| *b == b'/') else {
-            let num = read_number(text)?;
-            return Some(Fraction { num, den: 1 });
-        };
-        let num = read_number(&text[..slash])?;
-        let den = read_number(&text[slash + 1..])?;
-        if den >= 2 && gcd(num.unsigned_abs(), den.unsigned_abs()) == 1 {
-            Some(Fraction { num, den })
-        } else {
-            None
+        let text = str::from_utf8(text).ok()?;
+        match text.split_once('/') {
+            None => {
+                let num = read_number(text)?;
+                Some(Fraction { num, den: 1 })
+            }
+            Some((num, den)) => read_pair(num, den),
         }
     }
 
@@ -43,14 +40,27 @@ impl Fraction {
     }
 }
 
-/// The number that prints as `text`, or None where there is none.
-fn read_number(text: &[u8]) -> Option<i128>
+/// The fraction in lowest terms, its denominator at least 2, whose numbers print as the two texts.
+fn read_pair(num: &str, den: &str) -> Option<Fraction>
+    ensures { MatchOption result ((p q : ℤ) → FitsSigned w128 p → FitsSigned w128 q → IsPair num.now den.now p q → ⊥) (λ f. IsPair num.now den.now f.num f.den) }
+{
+    let num = read_number(num)?;
+    let den = read_number(den)?;
+    if den >= 2 && gcd(num.unsigned_abs(), den.unsigned_abs()) == 1 {
+        Some(Fraction { num, den })
+    } else {
+        None
+    }
+}
+
+/// The number that prints as `text`, or None where no number does.
+fn read_number(text: &str) -> Option<i128>
     ensures { MatchOption result ((n : ℤ) → FitsSigned w128 n → text.now ≢ signed_decimal n) (λ n. text.now ≡ signed_decimal n) }
 {
-    let number = str::from_utf8(text).ok()?.parse::<i128>().ok()?;
+    let number = text.parse::<i128>().ok()?;
     // `parse` also takes a leading `+`, leading zeros and `-0`.
     let mut buffer = Buffer::new();
-    if buffer.format(number).as_bytes() == text {
+    if buffer.format(number) == text {
         Some(number)
     } else {
         None

@@ -1,5 +1,4 @@
-use Rattle.std.proofs.Common.{refl, sym, ◌∙◌, to_z, of_z, FitsSigned, ℤ, rules}
-use Rattle.std.specs.Int.{w128}
+use Rattle.std.proofs.Common.{refl, sym, rules}
 use Rattle.frac_128.specs.Quotient.{IsReduced}
 use Rattle.frac_128.proofs.Sum.{sum-positive, sum-reduced, sum-needs, sum-suffices}
 use Rattle.frac_128.proofs.Seen.{reduced-seen, times-seen, added, fits-along, stored, positive-along, equal-to, refused}
@@ -53,10 +52,12 @@ returns-clause-fits c =
     let x = times-seen c.args.self.num c.without_common_divisor-own.result.1 (search rules) (search rules) in
     let y = times-seen c.args.other.num c.without_common_divisor-own.result.0 (search rules) (search rules) in
     let n = added c.in_ok-left.left c.in_ok-right.right _ _ c.in_ok-left.ensures c.in_ok-right.ensures x y in
-    let z = times-seen c.args.self.den c.without_common_divisor-own.result.1 (search rules) (search rules) in
-    (λ _. sum-suffices _ _ _ _ _ _ c.args.self.lowest c.args.other.lowest r (record {
-      left = fits-along _ _ x c.in_ok-left.ensures.0;
-      right = fits-along _ _ y c.in_ok-right.ensures.0;
-      numerator = fits-along _ _ n c.in_ok-num.ensures.0;
-      denominator = fits-along _ _ z c.in_ok-den.ensures.0;
-    }), λ _. refl)
+    let z = times-seen c.args.self.den c.without_common_divisor-own.result.1 (search rules) (search rules) in (
+      λ _. sum-suffices _ _ _ _ _ _ c.args.self.lowest c.args.other.lowest r (record {
+        left = fits-along _ _ x c.in_ok-left.ensures.0;
+        right = fits-along _ _ y c.in_ok-right.ensures.0;
+        numerator = fits-along _ _ n c.in_ok-num.ensures.0;
+        denominator = fits-along _ _ z c.in_ok-den.ensures.0;
+      }),
+      λ _. refl,
+    )

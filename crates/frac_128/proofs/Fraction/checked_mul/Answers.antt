@@ -1,6 +1,4 @@
-use Rattle.std.proofs.Common.{refl, sym, to_z, of_z, FitsSigned, ℤ, rules}
-use Rattle.std.specs.Prelude.{◌*ℤ◌}
-use Rattle.std.specs.Int.{w128}
+use Rattle.std.proofs.Common.{refl, sym, rules}
 use Rattle.frac_128.specs.Quotient.{IsReduced}
 use Rattle.frac_128.proofs.Lowest.{product-lowest, product-equal, product-needs, product-suffices}
 use Rattle.frac_128.proofs.Seen.{reduced-seen, times-seen, fits-along, stored, equal-along, lowest-along, refused}

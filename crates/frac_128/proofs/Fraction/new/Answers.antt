@@ -1,7 +1,6 @@
-use Rattle.std.proofs.Common.{refl, ◌∙◌, to_z, of_z, FitsSigned, rules}
+use Rattle.std.proofs.Common.{rules}
 use Rattle.std.specs.Int.{w128}
 use Rattle.std.proofs.lemmas.Int.{to_z-of_z}
-use Rattle.frac_128.specs.Quotient.{IsReduced}
 use Rattle.frac_128.proofs.Lowest.{reduced-lowest, reduced-equal}
 use Rattle.frac_128.proofs.Seen.{reduced-seen, equal-along, lowest-along}
 use Rattle.frac_128.proofs.Fraction.new.Goals as goal
