@@ -1,5 +1,5 @@
 -- The limits of what is accepted, in the order in which they are tested.
-use Rattle.std.specs.Prelude.{ℕ, zero, suc, ◌+◌, ◌*◌, ◌/◌, ◌%◌, ◌^◌, ◌==◌, nat_lt, nat_le, Bool, true, false, not, ◌&&◌, ◌||◌, List, [], ◌∷◌, length, Option, option_map, find, nat_abs, codes}
+use Rattle.std.specs.Prelude.{ℕ, zero, suc, ◌+◌, ◌*◌, ◌/◌, ◌%◌, ◌^◌, ◌==◌, nat_lt, nat_le, Bool, true, false, not, ◌&&◌, ◌||◌, List, [], ◌∷◌, length, Option, option_map, find, nat_abs, ℤ, pos, codes}
 use Rattle.std.specs.List.{list_any, list_all}
 use Rattle.scatter_text.specs.declared.file.Coordinate.{Coordinate}
 use Rattle.scatter_text.specs.declared.file.TermRow.{TermRow}
@@ -22,26 +22,40 @@ gcd_within (suc steps) a b = elim (b == 0) [ true ↦ a | false ↦ gcd_within s
 unfoldable pub gcd : ℕ → ℕ → ℕ
 gcd a b = gcd_within b a b
 
--- the monomials in the variables up to the order are more than 131072
-unfoldable pub is_size_passed : ℕ → ℕ → Bool
-is_size_passed order vars = nat_lt 131072 (binomial (order + vars) vars)
+-- more than 8 variables
+abbrev pub has_many_vars : ℤ → Bool
+has_many_vars vars = nat_lt 8 (nat_abs vars)
 
-unfoldable pub has_many_terms : LineRow → Bool
-has_many_terms l = nat_lt 64 (length l.terms)
+-- more than 131072 monomials in the variables up to the order
+unfoldable pub has_many_monomials : ℕ → ℤ → Bool
+has_many_monomials order vars = nat_lt 131072 (binomial (order + nat_abs vars) (nat_abs vars))
+
+unfoldable pub has_many_lines : List LineRow → Bool
+has_many_lines lines = nat_lt 16 (length lines)
+
+unfoldable pub has_many_terms : List LineRow → Bool
+has_many_terms lines = list_any (λ l. nat_lt 64 (length l.terms)) lines
 
 unfoldable pub has_large_coefficient : LineRow → Bool
 has_large_coefficient l = list_any (λ t. nat_lt 2147483647 (nat_abs t.c)) l.terms
 
--- in a direction (dx, dy): of the line itself, and of its terms
+-- j times a number of a direction
+unfoldable pub is_exponent_large : ℤ → ℤ → Bool
+is_exponent_large j d = nat_lt 64 (nat_abs j * nat_abs d)
+
+-- of the direction itself, and of the terms
 unfoldable pub has_large_exponent : LineRow → Bool
 has_large_exponent l =
-    nat_lt 64 (nat_abs l.dx) || nat_lt 64 (nat_abs l.dy) ||
-    list_any (λ t. nat_lt 64 (nat_abs t.j * nat_abs l.dx) || nat_lt 64 (nat_abs t.j * nat_abs l.dy)) l.terms
+    is_exponent_large (pos 1) l.dx || is_exponent_large (pos 1) l.dy ||
+    list_any (λ t. is_exponent_large t.j l.dx || is_exponent_large t.j l.dy) l.terms
+
+unfoldable pub is_power_large : TermRow → Bool
+is_power_large t = list_any (λ a. nat_lt 255 (nat_abs a)) t.powers
 
 unfoldable pub has_large_power : LineRow → Bool
-has_large_power l = list_any (λ t. list_any (λ a. nat_lt 255 (nat_abs a)) t.powers) l.terms
+has_large_power l = list_any is_power_large l.terms
 
--- the point (x, y) over the least common denominator w: a number of x, y, w above 2^40
+-- the point (x, y) over the least common denominator w: one of x, y, w above 2^40
 unfoldable pub is_far : Coordinate → Coordinate → Bool
 is_far x y =
     let w = nat_abs x.den * nat_abs y.den / gcd (nat_abs x.den) (nat_abs y.den) in
@@ -52,21 +66,21 @@ unfoldable pub is_simple : LineRow → Bool
 is_simple l = (nat_abs l.x.num == 0) && (nat_abs l.y.num == 0) && nat_le (length l.terms) 1
 
 -- what is computed so far: two simple lines, to an order of at most 2
-unfoldable pub is_built : TextFile → ℕ → Bool
-is_built file order = nat_le order 2 && (length file.lines == 2) && list_all is_simple file.lines
+unfoldable pub is_built : List LineRow → ℕ → Bool
+is_built lines order = nat_le order 2 && (length lines == 2) && list_all is_simple lines
 
 -- each limit with the test of whether it is passed; a text's bytes are counted before it is read
 abbrev pub limits_of : TextFile → ℕ → List (LimitKind × Bool)
 limits_of file order =
-    (Vars, nat_lt 8 (nat_abs file.vars)) ∷
-    (Size, is_size_passed order (nat_abs file.vars)) ∷
-    (Lines, nat_lt 16 (length file.lines)) ∷
-    (Terms, list_any has_many_terms file.lines) ∷
+    (Vars, has_many_vars file.vars) ∷
+    (Size, has_many_monomials order file.vars) ∷
+    (Lines, has_many_lines file.lines) ∷
+    (Terms, has_many_terms file.lines) ∷
     (Coefficient, list_any has_large_coefficient file.lines) ∷
     (Exponent, list_any has_large_exponent file.lines) ∷
     (Power, list_any has_large_power file.lines) ∷
     (Place, list_any (λ l. is_far l.x l.y) file.lines) ∷
-    (Unbuilt, not (is_built file order)) ∷ []
+    (Unbuilt, not (is_built file.lines order)) ∷ []
 
 -- the first limit that is passed
 abbrev pub limit_of : TextFile → ℕ → Option LimitKind

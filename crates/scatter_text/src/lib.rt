@@ -1,6 +1,7 @@
 // The text that describes lines of a scattering diagram: its types, its reader, and the limits of what is accepted.
 #![tactic(auto)]
 
+mod divisor;
 mod fault;
 mod file;
 mod grammar;
