@@ -1,0 +1,99 @@
+-- The limits of what is accepted, in the order in which they are tested.
+use Rattle.std.specs.Prelude.{ℕ, zero, suc, ◌+◌, ◌*◌, ◌/◌, ◌%◌, ◌^◌, ◌==◌, nat_lt, nat_le, Bool, true, false, not, ◌&&◌, ◌||◌, List, [], ◌∷◌, length, Option, option_map, find, nat_abs, ℤ, pos, codes}
+use Rattle.std.specs.List.{list_any, list_all}
+use Rattle.scatter_text.specs.declared.file.Coordinate.{Coordinate}
+use Rattle.scatter_text.specs.declared.file.TermRow.{TermRow}
+use Rattle.scatter_text.specs.declared.file.LineRow.{LineRow}
+use Rattle.scatter_text.specs.declared.file.TextFile.{TextFile}
+use Rattle.scatter_text.specs.declared.fault.LimitKind.{LimitKind}
+use Rattle.scatter_text.specs.declared.fault.LimitKind.TheVariants.{Bytes, Vars, Size, Lines, Terms, Coefficient, Exponent, Power, Place, Unbuilt}
+
+-- n over k, by Pascal's rule
+abbrev pub binomial : ℕ → ℕ → ℕ
+binomial n zero = 1
+binomial zero (suc k) = 0
+binomial (suc n) (suc k) = binomial n k + binomial n (suc k)
+
+-- the greatest common divisor, by Euclid's remainders; no more of them than b
+abbrev pub gcd_within : ℕ → ℕ → ℕ → ℕ
+gcd_within zero a b = a
+gcd_within (suc steps) a b = elim (b == 0) [ true ↦ a | false ↦ gcd_within steps b (a % b) ]
+
+unfoldable pub gcd : ℕ → ℕ → ℕ
+gcd a b = gcd_within b a b
+
+-- more than 8 variables
+abbrev pub has_many_vars : ℤ → Bool
+has_many_vars vars = nat_lt 8 (nat_abs vars)
+
+-- more than 131072 monomials in the variables up to the order
+unfoldable pub has_many_monomials : ℕ → ℤ → Bool
+has_many_monomials order vars = nat_lt 131072 (binomial (order + nat_abs vars) (nat_abs vars))
+
+unfoldable pub has_many_lines : List LineRow → Bool
+has_many_lines lines = nat_lt 16 (length lines)
+
+unfoldable pub has_many_terms : List LineRow → Bool
+has_many_terms lines = list_any (λ l. nat_lt 64 (length l.terms)) lines
+
+unfoldable pub has_large_coefficient : LineRow → Bool
+has_large_coefficient l = list_any (λ t. nat_lt 2147483647 (nat_abs t.c)) l.terms
+
+-- j times a number of a direction
+unfoldable pub is_exponent_large : ℤ → ℤ → Bool
+is_exponent_large j d = nat_lt 64 (nat_abs j * nat_abs d)
+
+-- of the direction itself, and of the terms
+unfoldable pub has_large_exponent : LineRow → Bool
+has_large_exponent l =
+    is_exponent_large (pos 1) l.dx || is_exponent_large (pos 1) l.dy ||
+    list_any (λ t. is_exponent_large t.j l.dx || is_exponent_large t.j l.dy) l.terms
+
+unfoldable pub is_power_large : TermRow → Bool
+is_power_large t = list_any (λ a. nat_lt 255 (nat_abs a)) t.powers
+
+unfoldable pub has_large_power : LineRow → Bool
+has_large_power l = list_any is_power_large l.terms
+
+-- the point (x, y) over the least common denominator w: one of x, y, w above 2^40
+unfoldable pub is_far : Coordinate → Coordinate → Bool
+is_far x y =
+    let w = nat_abs x.den * nat_abs y.den / gcd (nat_abs x.den) (nat_abs y.den) in
+    nat_lt (2 ^ 40) w || nat_lt (2 ^ 40) (nat_abs x.num * (w / nat_abs x.den)) || nat_lt (2 ^ 40) (nat_abs y.num * (w / nat_abs y.den))
+
+-- a line through 0 0 with at most one term
+unfoldable pub is_simple : LineRow → Bool
+is_simple l = (nat_abs l.x.num == 0) && (nat_abs l.y.num == 0) && nat_le (length l.terms) 1
+
+-- what is computed so far: two simple lines, to an order of at most 2
+unfoldable pub is_built : List LineRow → ℕ → Bool
+is_built lines order = nat_le order 2 && (length lines == 2) && list_all is_simple lines
+
+-- each limit with the test of whether it is passed; a text's bytes are counted before it is read
+abbrev pub limits_of : TextFile → ℕ → List (LimitKind × Bool)
+limits_of file order =
+    (Vars, has_many_vars file.vars) ∷
+    (Size, has_many_monomials order file.vars) ∷
+    (Lines, has_many_lines file.lines) ∷
+    (Terms, has_many_terms file.lines) ∷
+    (Coefficient, list_any has_large_coefficient file.lines) ∷
+    (Exponent, list_any has_large_exponent file.lines) ∷
+    (Power, list_any has_large_power file.lines) ∷
+    (Place, list_any (λ l. is_far l.x l.y) file.lines) ∷
+    (Unbuilt, not (is_built file.lines order)) ∷ []
+
+-- the first limit that is passed
+abbrev pub limit_of : TextFile → ℕ → Option LimitKind
+limit_of file order = option_map (λ limit. limit.0) (find (λ limit. limit.1) (limits_of file order))
+
+abbrev pub limit_word : LimitKind → List ℕ
+limit_word Bytes = codes "bytes"
+limit_word Vars = codes "vars"
+limit_word Size = codes "size"
+limit_word Lines = codes "lines"
+limit_word Terms = codes "terms"
+limit_word Coefficient = codes "coefficient"
+limit_word Exponent = codes "exponent"
+limit_word Power = codes "power"
+limit_word Place = codes "point"
+limit_word Unbuilt = codes "unbuilt"

@@ -1,0 +1,60 @@
+// What can be wrong with a text, and which limits a file can pass.
+use std::alloc::AllocError;
+use thiserror::Error;
+
+/// What is wrong with a line. A line's tests are made in the order of the variants.
+#[derive(Clone, Copy, Debug, PartialEq, Eq)]
+pub enum TextKind {
+    /// It is the last one, isn't empty, and has no line feed.
+    Unfinished,
+    /// It holds a byte outside 32 to 126.
+    Byte,
+    /// It is empty, begins or ends with a space, or has two spaces together.
+    Shape,
+    /// Its first token isn't a word that is allowed at its place.
+    Word,
+    /// It has too few or too many tokens, or a fixed word isn't in its place.
+    Count,
+    /// A token isn't spelled as the number or coordinate that belongs there.
+    Number,
+    /// A number is one that the rules on values refuse.
+    Value,
+    /// Every line is good, and there is no `end`.
+    Missing,
+}
+
+/// Why a text wasn't read.
+#[derive(Debug, Drop, Error)]
+pub enum TextFault {
+    /// The first bad line, counted from 1, and what is wrong with it.
+    #[error("line {line} is bad: {kind:?}")]
+    Bad { line: u32, kind: TextKind },
+    /// Memory ran out.
+    #[error("out of memory")]
+    Memory,
+}
+
+/// A limit that a file passes. They are tested in the order of the variants.
+#[derive(Clone, Copy, Debug, PartialEq, Eq)]
+pub enum LimitKind {
+    /// More than 1048576 bytes of text.
+    Bytes,
+    /// More than 8 variables.
+    Vars,
+    /// More than 131072 monomials in the variables up to the order.
+    Size,
+    /// More than 16 lines.
+    Lines,
+    /// More than 64 terms on a line.
+    Terms,
+    /// A coefficient above 2147483647 in absolute value.
+    Coefficient,
+    /// An exponent of a line's direction, or of a term, above 64 in absolute value.
+    Exponent,
+    /// A power of a variable above 255.
+    Power,
+    /// A line's point that isn't near: over the least common denominator, a number above 2^40.
+    Place,
+    /// What this version doesn't compute yet.
+    Unbuilt,
+}
