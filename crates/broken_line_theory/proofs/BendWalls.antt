@@ -8,7 +8,7 @@ use Rattle.scattering.specs.Collections.{In, Every}
 use Rattle.scattering.specs.Series.{Exp, Key, det, degree, int_eq, coef, one, absolute, rest, IsMultiple}
 use Rattle.scattering.specs.Plane.{Point}
 use Rattle.scattering.specs.Wall.{Wall, is_on, is_live, are_parallel, starts_at}
-use Rattle.scattering.specs.Stops.{is_special, walls_on}
+use Rattle.scattering.specs.ActivePoint.{is_special, walls_on}
 use Rattle.scattering.specs.BrokenLine.{live_on, across, bend_majorant}
 use Rattle.scattering.proofs.Lists.{or-left, and-left, and-right, Every-implies, any-none, filter-keeps, Every-at, filter-from}
 use Rattle.broken_line_theory.proofs.Terms.{IsKept, AllKeys, all-one, all-pow, all-product, all-absolute, all-rest, all-coef}

@@ -7,13 +7,13 @@ use Rattle.scattering.specs.Series.{Exp, origin, exp_eq}
 use Rattle.scattering.specs.Plane.{Point, IsPoint}
 use Rattle.scattering.specs.Wall.{Wall, IsWall, cut_walls}
 use Rattle.scattering.specs.BrokenLine.{IsBrokenLine}
-use Rattle.scattering.specs.Tail.{IsTail}
+use Rattle.scattering.specs.Tail.{IsTail, backwards}
 use Rattle.scattering.specs.Theta.{AskFault, NotGeneric, TooManyReach, TooManyTails, PointTooLarge, WeightTooLarge, IsMet, MeetsNone, TailsFault, is_on_live, IsAskFault}
-use Rattle.scattering.specs.Laws.{backwards, LinesAreTails}
 use Rattle.scattering.proofs.Keys.{exp_eq-same}
 use Rattle.broken_line_theory.proofs.Bends.{cut-walls-tame}
 use Rattle.broken_line_theory.proofs.LinesAndTails.{IsSafe, line-tail, tail-line, line-moves, tail-moves}
 use Rattle.broken_line_theory.proofs.GenericPoints.{off-plain}
+use Rattle.broken_line_theory.specs.Laws.{LinesAreTails}
 
 pub none-some : (c : AskFault) → None ≡ Some c → ⊥
 none-some c e = cc

@@ -7,7 +7,7 @@ use Rattle.scattering.specs.Collections.{In}
 use Rattle.scattering.specs.Series.{det, dot, int_eq}
 use Rattle.scattering.specs.Plane.{Point, difference, point_eq}
 use Rattle.scattering.specs.Wall.{WallKind, Line, Incoming, Outgoing, Wall, allows, is_on, is_live, is_line, are_parallel, starts_at}
-use Rattle.scattering.specs.Stops.{is_special, walls_on}
+use Rattle.scattering.specs.ActivePoint.{is_special, walls_on}
 use Rattle.scattering.specs.BrokenLine.{live_on}
 use Rattle.scattering.specs.Theta.{is_on_live}
 use Rattle.scattering.proofs.Lists.{and-left, and-right, filter-keeps, filter-from}

@@ -6,11 +6,10 @@ use Rattle.scattering.specs.Collections.{Every}
 use Rattle.scattering.specs.Series.{Exp, origin, exp_add, exp_sub, det, degree, coef}
 use Rattle.scattering.specs.Plane.{Point, IsPoint, IsNear, FromOn, Beyond}
 use Rattle.scattering.specs.Wall.{Wall, cut_walls}
-use Rattle.scattering.specs.Stops.{is_special}
+use Rattle.scattering.specs.ActivePoint.{is_special}
 use Rattle.scattering.specs.BrokenLine.{Bend, IsBend, degrees, Reaches, IsStretch, Travels, IsBrokenLine}
-use Rattle.scattering.specs.Tail.{IsReachedBy, IsInReach, Extends, IsTraced, Tail, IsTail, last, last_point}
+use Rattle.scattering.specs.Tail.{IsReachedBy, IsInReach, Extends, IsTraced, Tail, IsTail, last, last_point, end_exp, backwards}
 use Rattle.scattering.specs.Theta.{IsHit, IsMet}
-use Rattle.scattering.specs.Laws.{end_exp, backwards}
 use Rattle.scattering.proofs.Ring.{dif-up, dif-add, dif-neg, dif-mul, dif-same}
 use Rattle.plane_theory.proofs.Points.{beyond-back, beyond-forth, beyond-from, from-itself}
 use Rattle.plane_theory.proofs.LowestTerms.{from-splits}

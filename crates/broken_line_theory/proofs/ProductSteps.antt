@@ -1,5 +1,5 @@
 -- The steps end with the family that fits.
-use Rattle.std.proofs.Common.{◌≡◌, ◌≢◌, ℕ, zero, suc, refl, sym, ap, subst, ◌∙◌, ◌-◌, ◌<◌, ◌≤◌, ◌⊎◌, inl, inr, arith, Bool, true, false, List, [], ◌++◌, map}
+use Rattle.std.proofs.Common.{◌≡◌, ◌≢◌, ℕ, zero, suc, refl, sym, ap, subst, ◌∙◌, ◌-◌, ◌<◌, ◌≤◌, ◌⊎◌, inl, inr, arith, Bool, true, false, List, [], ◌++◌, map, add-one}
 use Rattle.std.specs.Prelude.{ℤ, pos, ◌+ℤ◌, ◌-ℤ◌, neg_ℤ, None, filter}
 use Rattle.std.proofs.lemmas.Int.{ints}
 use native.Mathlib.Decide.{dec_le}
@@ -16,6 +16,7 @@ use Rattle.broken_line_theory.proofs.CompleteTails.{free-of, passes, none-some}
 use Rattle.broken_line_theory.proofs.ThetaOfTails.{forwards, is_complete, theta-of-tails}
 use Rattle.broken_line_theory.proofs.UniqueFamily.{AgreeBelow, shared-begin, is-zero, excess-same, key-term}
 use Rattle.broken_line_theory.proofs.UniqueFamily as U
+use Rattle.broken_line_theory.specs.Laws.{StepsEndWithFamily}
 
 abbrev Theta : List Wall → ℕ → Exp → Point → Type 0
 Theta ws n m q = (s : Sum) × IsTheta ws n m q s
@@ -128,3 +129,6 @@ module _ (ws : List Wall) (k j : ℕ) (q : Point) (walls : Every (IsWall j) ws) 
       let h = runs-ready first (suc k) a n runs in
       let t = thetas-of a h.series h.free in
       (h.series, (t.0, t.1, (product.0, product.1, product.2, product.3, λ y low. h.fits t.0 t.1 y (omega (arith, low)) low ∙ product.4 y low)))
+
+pub steps_end : StepsEndWithFamily
+steps_end ws n k l r q s a first w walls point product runs = runs-end ws n k q walls point s l r first a w product (subst (λ (d : ℕ). Runs ws n q s first d a w) (add-one n) runs)

@@ -7,9 +7,8 @@ use Rattle.scattering.specs.Series.{Exp, origin, exp_eq, exp_add, exp_sub}
 use Rattle.scattering.specs.Plane.{Point, IsPoint}
 use Rattle.scattering.specs.Wall.{Wall, IsWall}
 use Rattle.scattering.specs.BrokenLine.{Bend, IsBrokenLine, value}
-use Rattle.scattering.specs.Tail.{Tail, IsTail, last}
+use Rattle.scattering.specs.Tail.{Tail, IsTail, last, backwards, end_exp}
 use Rattle.scattering.specs.Theta.{IsAskFault, IsTheta}
-use Rattle.scattering.specs.Laws.{backwards, end_exp}
 use Rattle.scattering.proofs.Lists.{Every-filter, filter-keeps, Every-from_In, Every-at, filter-from}
 use Rattle.scattering.proofs.Keys.{exp_eq-same, exp_eq-refl}
 use Rattle.broken_line_theory.proofs.TracedBends.{reverse-cons, sub-add, last-end}

@@ -7,8 +7,7 @@ use Rattle.scattering.specs.Series.{Exp, origin, exp_add, exp_sub, degree}
 use Rattle.scattering.specs.Plane.{Point, IsPoint}
 use Rattle.scattering.specs.Wall.{Wall}
 use Rattle.scattering.specs.BrokenLine.{Bend, degrees}
-use Rattle.scattering.specs.Tail.{IsInReach, Extends, IsTraced, last, last_point}
-use Rattle.scattering.specs.Laws.{end_exp}
+use Rattle.scattering.specs.Tail.{IsInReach, Extends, IsTraced, last, last_point, end_exp}
 
 same-exp : (u v : Exp) → u.a ≡ v.a → u.b ≡ v.b → u ≡ v
 same-exp u v p q = λ i. record { a = p i; b = q i }

@@ -16,6 +16,7 @@ use Rattle.scattering.proofs.Keys.{key_eq-same, same-or-not}
 use Rattle.plane_theory.proofs.WholeNumbers.{sign}
 use Rattle.broken_line_theory.proofs.EqualSums.{agree, pairing-minus, at_key, pairing-at, coef-mul, moved-same, mul-same}
 use Rattle.broken_line_theory.proofs.LeadingMonomial.{theta-unique, theta-leading}
+use Rattle.broken_line_theory.specs.Laws.{FamilyIsUnique}
 
 -- ---- terms of a sum
 pub key-term : (f : Sum) (x : Key) → coef f x ≢ pos 0 → (t : Term) × In t f × (t.0 ≡ x)
@@ -258,3 +259,6 @@ module _ (ws : List Wall) (k j : ℕ) (q : Point) (walls : Every (IsWall j) ws) 
       go : Dec (degree y ≤ k) → coef a y ≡ coef b y
       go (yes low) = all-below a b f.1.0 g.1.0 f.1.1 g.1.1 sums (suc k) (omega arith) y (omega (arith, low))
       go (no high) = none-above a f.0 y (omega (arith, high)) ∙ sym (none-above b g.0 y (omega (arith, high)))
+
+pub family_unique : FamilyIsUnique
+family_unique ws n k l r q a b walls point = family-unique ws n k q walls point l r a b

@@ -6,8 +6,7 @@ use Rattle.scattering.specs.Series.{Exp, det, z, key_mul, monomial, coef, SameTo
 use Rattle.scattering.specs.Plane.{Point}
 use Rattle.scattering.specs.Wall.{Wall, IsWall, cut_walls}
 use Rattle.scattering.specs.LocalProduct.{image, carry, half_walls, axis_x, axis_y, IsConsistentAt}
-use Rattle.scattering.specs.Stops.{Lie, ratio_at, IsCorrection}
-use Rattle.scattering.specs.Laws.{IsWhole, CorrectionExists}
+use Rattle.scattering.specs.Correction.{Lie, ratio_at, IsCorrection, IsWhole}
 use Rattle.scattering.proofs.Lists.{Every-implies, Every-append, Every-mapped}
 use Rattle.crossing_theory.proofs.Translation.{Eq, Eq-trans, to_Eq}
 use Rattle.crossing_theory.proofs.HalfWalls.{Proper, proper}
@@ -18,6 +17,7 @@ use Rattle.correction_theory.proofs.Correction.{built, right-everywhere}
 use Rattle.completion_theory.proofs.RaisedDiagram.{lift_wall, lifted, cut-lifted, Given, given-lift, givens}
 use Rattle.completion_theory.proofs.LowerOrders.{image-cut}
 use Rattle.completion_theory.proofs.UniqueCompletion.{on_axis}
+use Rattle.completion_theory.specs.Laws.{CorrectionExists}
 
 -- where both images are the identity below degree n + 1
 pub correction : (n : ℕ) (ws : List Wall) (p : Point) → Every Proper ws → Eq n (image ws p (suc n) axis_x) (monomial (z axis_x)) → Eq n (image ws p (suc n) axis_y) (monomial (z axis_y)) → (h : Lie) × IsCorrection ws p (suc n) h × Every IsWhole h

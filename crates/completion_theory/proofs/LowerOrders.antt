@@ -7,8 +7,7 @@ use Rattle.scattering.specs.Series as D
 use Rattle.scattering.specs.Plane.{Point, IsDirection}
 use Rattle.scattering.specs.Wall.{Outgoing, Wall, IsWall, is_live, cut_wall, cut_walls, walls}
 use Rattle.scattering.specs.LocalProduct.{image, axis_x, axis_y}
-use Rattle.scattering.specs.Completion.{ray_before, IsReduced}
-use Rattle.scattering.specs.Laws.{LowerOrders, lowered}
+use Rattle.scattering.specs.Completion.{ray_before, IsReduced, lowered}
 use Rattle.scattering.proofs.Lists.{Every-implies, Every-append, Every-filter, pairs-filter, map-append, filters-every}
 use Rattle.crossing_theory.proofs.Translation.{Eq, Eq-trans, Eq-sym, to_Eq, from_Eq, cut-same}
 use Rattle.crossing_theory.proofs.HalfWalls.{Proper, proper}
@@ -18,6 +17,7 @@ use Rattle.completion_theory.proofs.RaisedDiagram.{cut-cut}
 use Rattle.crossing_theory.proofs.LiveWalls.{image-live, filter-append}
 use Rattle.sum_algebra.proofs.SmallCrossings.{Same-lower}
 use Rattle.crossing_theory.proofs.Keys.{keys}
+use Rattle.completion_theory.specs.Laws.{LowerOrdersComplete}
 
 every-both : {A : Type 0} (P Q : A → Type 0) (xs : List A) → Every P xs → Every Q xs → Every (λ x. P x × Q x) xs
 every-both P Q [] h i = tt
@@ -104,7 +104,7 @@ every-outgoing n (w ∷ ws) h = (h.0, every-outgoing n ws h.1)
 pub reduced-lower : (n : ℕ) (rays : List Wall) → IsReduced rays → IsReduced (filter is_live (cut_walls n rays))
 reduced-lower n rays h = record { live = every-cut (λ r. IsTrue (is_live r)) is_live (cut_walls n rays) (λ r q. q); rises = pairs-filter _ is_live (cut_walls n rays) (pairs-cut n rays h.rises) }
 
-pub lower_orders : LowerOrders
+pub lower_orders : LowerOrdersComplete
 lower_orders given n m k e le lk hg c = record {
   initial = ap (cut_walls n) c.initial ∙ cut-cuts n m le given;
   outgoing = Every-filter _ is_live (cut_walls n e.rays) (every-outgoing n e.rays c.outgoing);

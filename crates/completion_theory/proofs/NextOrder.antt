@@ -16,9 +16,9 @@ use Rattle.scattering.specs.Plane.{Point, IsPoint, IsDirection, point_eq}
 use Rattle.scattering.specs.Wall.{Outgoing, Wall, Diagram, IsWall, is_live, cut_wall, cut_walls, walls, starts_at}
 use Rattle.scattering.specs.LocalProduct.{image, axis_x, axis_y, IsConsistentAt}
 use Rattle.scattering.specs.Completion.{IsCompletion}
-use Rattle.scattering.specs.Stops.{IsRatio, Lie, ratio_at, IsCorrection, Corrections, IsAdded, IsMerged, AreCorrections, ray_coef, is_incoming, is_active}
+use Rattle.scattering.specs.ActivePoint.{is_incoming, is_active}
+use Rattle.scattering.specs.Correction.{IsRatio, Lie, ratio_at, IsCorrection, Corrections, IsAdded, IsMerged, AreCorrections, ray_coef}
 use Rattle.scattering.proofs.Pairing.{coef-append}
-use Rattle.scattering.specs.Laws.{StepCompletes}
 use Rattle.scattering.proofs.Lists.{Every-implies, Every-append, Every-filter, Every-at, Every-mapped}
 use Rattle.scattering.proofs.Keys.{key_eq-same, point_eq-same, point_eq-refl, origin-case, key_eq-apart}
 use Rattle.plane_theory.proofs.Directions.{det-scale, zero-factor, positive-not, Multiple, as_multiple}
@@ -36,6 +36,7 @@ use Rattle.completion_theory.proofs.RaisedDiagram.{cut-cut, lift_wall, lifted, c
 use Rattle.crossing_theory.proofs.LiveWalls.{scale-not_origin, direction-not_origin}
 use Rattle.completion_theory.proofs.LowerOrders.{image-cut, directed-cut, every-wall-cut, every-outgoing, reduced-lower}
 use Rattle.completion_theory.proofs.UniqueCompletion.{image-next, on_axis, ray_coef-live, ray_coef-cut, ray_coef-high}
+use Rattle.completion_theory.specs.Laws.{NextOrderCompletes}
 
 -- ---- what is added at low degrees and at exponent (0, 0)
 
@@ -333,5 +334,5 @@ at-next given n m e e' cs hg hk c j q =
     subst (λ j. j ≤ m → AreCorrections (lifted n j given e.rays) j cs → IsMerged given e cs j e' → IsCompletion given j e') (sym q)
     (λ le hc merged. step given n m le hg hk e e' cs c hc merged)
 
-pub step_completes : StepCompletes
+pub step_completes : NextOrderCompletes
 step_completes given n m e e' cs le hg hk c hc merged = at-next given n m e e' cs hg hk c (n + 1) (add-one n) le hc merged

@@ -19,7 +19,6 @@ filter-true b t f e = rw e refl
 filter-false : (b : Term → Bool) (t : Term) (f : Sum) → b t ≡ false → filter b (t ∷ f) ≡ filter b f
 filter-false b t f e = rw e refl
 
-
 clash : (n : ℕ) → 1 ≤ n → nat_le n 0 ≡ true → ⊥
 clash n le e = let l : n ≤ 0 = low n e in omega (arith, le, l)
   where
@@ -35,8 +34,10 @@ none (t ∷ f) h = go (key_eq t.0 unit) refl (nat_le (degree t.0) 0) refl (none 
   where
     low : Term → Bool
     low u = nat_le (degree u.0) 0
+
     other : Term → Bool
     other u = not (key_eq u.0 unit)
+
     go : (b : Bool) → key_eq t.0 unit ≡ b → (c : Bool) → nat_le (degree t.0) 0 ≡ c → (Every High (rest f) → rest (cut 0 f) ≡ []) → rest (cut 0 (t ∷ f)) ≡ []
     go true e true d ih = ap rest (filter-true (λ u. nat_le (degree u.0) 0) t f d) ∙ filter-false (λ u. not (key_eq u.0 unit)) t (cut 0 f) (ap not e) ∙ ih (subst (Every High) (filter-false (λ u. not (key_eq u.0 unit)) t f (ap not e)) h)
     go true e false d ih = ap rest (filter-false (λ u. nat_le (degree u.0) 0) t f d) ∙ ih (subst (Every High) (filter-false (λ u. not (key_eq u.0 unit)) t f (ap not e)) h)
@@ -53,6 +54,7 @@ dead m (w ∷ ws) h = go (is_live (cut_wall 0 w)) refl (dead m ws h.1)
   where
     off : is_live (cut_wall 0 w) ≡ false
     off = ap (λ (f : Sum). list_any (λ t. true) f) (none w.function (firsts _ High (rest w.function) (λ t q. q.0) h.0.function.others))
+
     go : (b : Bool) → is_live (cut_wall 0 w) ≡ b → filter is_live (cut_walls 0 ws ++ []) ≡ [] → filter is_live (cut_walls 0 (w ∷ ws) ++ []) ≡ []
     go true e ih = absurd (apart (sym off ∙ e))
       where
@@ -66,7 +68,10 @@ tail-none m (w ∷ ws) h = (h.0, tail-none m ws h.1)
 
 pub starts : (given : List Wall) (m : ℕ) → Every (IsWall m) given → IsCompletion given 0 (record { initial = cut_walls 0 given; rays = [] })
 starts given m hg = record {
-  initial = refl; outgoing = tt; proper = tt; reduced = record { live = tt; rises = tt };
+  initial = refl;
+  outgoing = tt;
+  proper = tt;
+  reduced = record { live = tt; rises = tt };
   consistent = λ p ip. record { x = at p axis_x; y = at p axis_y };
 }
   where

@@ -9,8 +9,7 @@ use Rattle.scattering.specs.Plane.{Point, point_eq}
 use Rattle.scattering.specs.Wall.{WallKind, Line, Incoming, Outgoing, Wall, IsWall, is_live, is_on, is_line, starts_at, has_term_to, crosses_to, cut_wall, cut_walls}
 use Rattle.scattering.specs.LocalProduct.{image, axis_x, axis_y, IsConsistentAt}
 use Rattle.scattering.specs.Completion.{IsReduced}
-use Rattle.scattering.specs.Stops.{is_incoming, is_active, walls_on}
-use Rattle.scattering.specs.Laws.{PassivePointsAreConsistent}
+use Rattle.scattering.specs.ActivePoint.{is_incoming, is_active, walls_on}
 use Rattle.scattering.proofs.Lists.{or-left, or-right, and-right, Every-implies, Every-append, any-weaken, any-none, filter-keeps, Every-from_In, Every-at, any-false, In-map, filter-from, map-append, Every-mapped}
 use Rattle.crossing_theory.proofs.Translation.{Eq, to_Eq, from_Eq}
 use Rattle.crossing_theory.proofs.HalfWalls.{Proper, proper, small}
@@ -19,6 +18,7 @@ use Rattle.crossing_theory.proofs.PassivePoints.{Quiet, passive}
 use Rattle.crossing_theory.proofs.OtherFunctions.{refit}
 use Rattle.crossing_theory.proofs.CutFunctions.{proper-cut}
 use Rattle.completion_theory.proofs.RayStarts.{quiet-refit, no-start}
+use Rattle.completion_theory.specs.Laws.{PassivePointsAreConsistent}
 
 -- ---- cuts
 

@@ -17,7 +17,8 @@ use Rattle.scattering.specs.Plane.{Point, point_eq}
 use Rattle.scattering.specs.Wall.{WallKind, Line, Incoming, Outgoing, Wall, IsWall, is_live, is_on, is_line, starts_at, has_term_to, crosses_to, are_parallel}
 use Rattle.scattering.specs.LocalProduct.{image, axis_x, axis_y}
 use Rattle.scattering.specs.Completion.{ray_before}
-use Rattle.scattering.specs.Stops.{ray_coef, is_incoming}
+use Rattle.scattering.specs.ActivePoint.{is_incoming}
+use Rattle.scattering.specs.Correction.{ray_coef}
 use Rattle.scattering.proofs.Pairing.{coef-append}
 use Rattle.scattering.proofs.Lists.{and-right, Every-implies, Every-append, Every-filter, any-none, filter-keeps, Every-from_In, Every-at, any-false, In-map, In-append, filter-from}
 use Rattle.scattering.proofs.Keys.{point_eq-same}

@@ -13,9 +13,9 @@ use Rattle.scattering.specs.Series as D
 use Rattle.scattering.specs.Plane.{Point, IsPoint, IsDirection, point_eq}
 use Rattle.scattering.specs.Wall.{WallKind, Outgoing, Wall, Diagram, IsWall, is_live, cut_walls, walls, starts_at}
 use Rattle.scattering.specs.LocalProduct.{image, axis_x, axis_y}
-use Rattle.scattering.specs.Completion.{IsCompletion}
-use Rattle.scattering.specs.Stops.{ray_coef, is_incoming}
-use Rattle.scattering.specs.Laws.{CompletionIsUnique, lowered}
+use Rattle.scattering.specs.Completion.{IsCompletion, lowered}
+use Rattle.scattering.specs.ActivePoint.{is_incoming}
+use Rattle.scattering.specs.Correction.{ray_coef}
 use Rattle.scattering.proofs.Pairing.{coef-append}
 use Rattle.scattering.proofs.Lists.{Every-implies, Every-append, Every-filter, map-append}
 use Rattle.scattering.proofs.Keys.{key_eq-same, key_eq-apart}
@@ -30,6 +30,7 @@ use Rattle.correction_theory.proofs.StrictOrder.{coef-none}
 use Rattle.correction_theory.proofs.ReducedRays.{rays-unique}
 use Rattle.completion_theory.proofs.RayStarts.{degree-mul}
 use Rattle.completion_theory.proofs.LowerOrders.{live-swap, lower_orders, directed-cut}
+use Rattle.completion_theory.specs.Laws.{CompletionIsUnique}
 
 -- ---- the coefficients of rays
 

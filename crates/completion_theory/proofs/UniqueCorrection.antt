@@ -11,14 +11,15 @@ use Rattle.scattering.specs.Series.{Key, Exp, degree, det, z, key_mul, coef, key
 use Rattle.scattering.specs.Wall.{Outgoing, Wall, Diagram, IsWall, starts_at}
 use Rattle.scattering.specs.LocalProduct.{image, IsConsistentAt}
 use Rattle.scattering.specs.Completion.{IsCompletion}
-use Rattle.scattering.specs.Stops.{Ratio, IsRatio, Lie, ratio_at, is_active}
-use Rattle.scattering.specs.Laws.{RaysStartAtActivePoints, CorrectionIsUnique}
+use Rattle.scattering.specs.ActivePoint.{is_active}
+use Rattle.scattering.specs.Correction.{Ratio, IsRatio, Lie, ratio_at}
 use Rattle.scattering.proofs.Lists.{Every-at}
 use Rattle.scattering.proofs.Keys.{key_eq-same, point_eq-refl, origin-case}
 use Rattle.plane_theory.proofs.Directions.{det-scale, cancel, positive-not, same-direction, as_multiple}
 use Rattle.completion_theory.proofs.RaisedDiagram.{lifted, Given, givens, no-ray-starts}
 use Rattle.correction_theory.proofs.RayGains.{starts-is}
 use Rattle.completion_theory.proofs.UniqueCompletion.{by_axes}
+use Rattle.completion_theory.specs.Laws.{RaysStartAtActivePoints, CorrectionIsUnique}
 
 -- ---- rays
 

@@ -4,7 +4,8 @@ use Rattle.std.specs.Prelude.{Option, Some, None}
 use Rattle.scattering.specs.Collections.{Every}
 use Rattle.scattering.specs.Wall.{Wall, Diagram, IsWall, walls}
 use Rattle.scattering.specs.Completion.{IsCompletion}
-use Rattle.scattering.specs.Stops.{StopCause, PointTooLarge, WeightTooLarge, TooManyWalls, StopsAfter, IsStopAt, raised}
+use Rattle.scattering.specs.Correction.{raised}
+use Rattle.scattering.specs.Stops.{StopCause, PointTooLarge, WeightTooLarge, TooManyWalls, StopsAfter, IsStopAt}
 use Rattle.completion_theory.proofs.UniqueCompletion.{completion_is_unique}
 
 out2 : {a b : ℕ} → a ≤ b → b < a → ⊥

@@ -20,7 +20,7 @@ use Rattle.scattering.specs.Collections.{In, Every, EveryPair}
 use Rattle.scattering.specs.Series.{Key, Sum, Exp, Powers, Term, degree, det, z, key_mul, key_eq, powers_add, origin, monomial, coef, scale, int_eq}
 use Rattle.scattering.specs.Series as D
 use Rattle.scattering.specs.LocalProduct.{axis_x, axis_y}
-use Rattle.scattering.specs.Stops.{Ratio, IsRatio, Lie, ratio_at}
+use Rattle.scattering.specs.Correction.{Ratio, IsRatio, Lie, ratio_at}
 use Rattle.scattering.proofs.Lists.{or-left, or-right, any-none, Every-from_In}
 use Rattle.scattering.proofs.Keys.{key_eq-same, key_eq-refl, int_eq-same, origin-case}
 use Rattle.plane_theory.proofs.Directions.{det-scale, zero-factor, positive-not, as_multiple}

@@ -9,7 +9,7 @@ use Rattle.sum_algebra.proofs.IntegerRing.{ints_ring, ◌:+◌, ◌:*◌, ◌:-�
 use Rattle.scattering.specs.Series.{Exp, origin, det}
 use Rattle.scattering.specs.Plane.{IsDirection}
 use Rattle.scattering.specs.LocalProduct.{axis_x, axis_y}
-use Rattle.scattering.specs.Stops.{Ratio, IsRatio}
+use Rattle.scattering.specs.Correction.{Ratio, IsRatio}
 use Rattle.plane_theory.proofs.Directions.{as_multiple, combination}
 
 pub record Reduced (t : ℤ) (g : ℕ) : Type 0 where

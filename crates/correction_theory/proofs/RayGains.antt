@@ -12,7 +12,8 @@ use Rattle.scattering.specs.Series.{Key, Sum, Exp, Powers, Term, degree, rest, c
 use Rattle.scattering.specs.Series as D
 use Rattle.scattering.specs.Plane.{Point, point_eq, IsDirection}
 use Rattle.scattering.specs.Wall.{WallKind, Outgoing, Wall, starts_at, is_line}
-use Rattle.scattering.specs.Stops.{is_incoming, ray_coef}
+use Rattle.scattering.specs.ActivePoint.{is_incoming}
+use Rattle.scattering.specs.Correction.{ray_coef}
 use Rattle.scattering.proofs.Pairing.{coef-append}
 use Rattle.scattering.proofs.Lists.{Every-implies}
 use Rattle.scattering.proofs.Keys.{key_eq-same, key_eq-refl, exp_eq-same}

@@ -8,7 +8,7 @@ use Rattle.scattering.specs.Series as D
 use Rattle.scattering.specs.Plane.{Point, IsPoint, IsDirection}
 use Rattle.scattering.specs.Wall.{Outgoing, Wall, IsWall, is_live}
 use Rattle.scattering.specs.Completion.{ray_before, IsReduced}
-use Rattle.scattering.specs.Stops.{ray_coef}
+use Rattle.scattering.specs.Correction.{ray_coef}
 use Rattle.scattering.proofs.Lists.{Every-filter, filter-keeps, Every-at, pairs-filter}
 use Rattle.scattering.proofs.Keys.{key_eq-same}
 use Rattle.correction_theory.proofs.StrictOrder.{sorted-unique, ray_before-asym, RaysRise, coef-own, coef-rest, series-unique, ray_coef-own, ray_coef-find}

@@ -10,7 +10,7 @@ use Rattle.scattering.specs.Series.{Key, Sum, Exp, Term, degree, rest, cut, coef
 use Rattle.scattering.specs.Series as D
 use Rattle.scattering.specs.Plane.{Point}
 use Rattle.scattering.specs.Wall.{Wall, cut_wall}
-use Rattle.scattering.specs.Stops.{is_incoming}
+use Rattle.scattering.specs.ActivePoint.{is_incoming}
 use Rattle.scattering.proofs.Lists.{filters-every}
 use Rattle.crossing_theory.proofs.Translation.{cut-same, from_Eq}
 use Rattle.crossing_theory.proofs.HalfWalls.{Proper, proper-by, every-keys}

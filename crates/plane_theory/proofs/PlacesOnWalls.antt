@@ -8,10 +8,10 @@ use Rattle.scattering.proofs.Ring.{dif-up, dif-neg, dif-mul, dif-same}
 use Rattle.scattering.specs.Series.{Exp, origin, det, dot, int_eq}
 use Rattle.scattering.specs.Plane.{IsDirection, difference}
 use Rattle.scattering.specs.Wall.{WallKind, Line, Incoming, Outgoing, allows, On, is_on}
-use Rattle.scattering.specs.Laws.{OnIsDecided}
 use Rattle.scattering.proofs.Lists.{and-left, and-right}
 use Rattle.plane_theory.proofs.WholeNumbers.{positive, not_negative, not_negative_of}
 use Rattle.plane_theory.proofs.Points.{at-onto, onto-at, onto-det, onto-dot, dot-onto, norm-positive}
+use Rattle.plane_theory.specs.Laws.{OnIsDecided}
 
 two : 2 ∣ 1 → ⊥
 two h = let k = le_of_dvd {m = 2} {n = 1} (omega arith) h in omega (arith, k)

@@ -1,7 +1,8 @@
+pub mod ActivePoint
 pub mod BrokenLine
 pub mod Collections
 pub mod Completion
-pub mod Laws
+pub mod Correction
 pub mod LocalProduct
 pub mod Plane
 pub mod Series

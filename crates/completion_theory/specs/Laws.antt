@@ -1,0 +1,49 @@
+-- What is proved here of corrections and completions.
+-- The walls are given as wall functions of some order m; a completion of order n reads them to degree n.
+use Rattle.std.specs.Prelude.{◌≡◌, ℕ, ◌+◌, ◌≤◌, IsTrue, IsFalse, List}
+use Rattle.scattering.specs.Collections.{In, Every}
+use Rattle.scattering.specs.Series.{Key}
+use Rattle.scattering.specs.Plane.{Point, IsPoint}
+use Rattle.scattering.specs.Wall.{Wall, IsWall, IsInitial, Diagram, walls}
+use Rattle.scattering.specs.LocalProduct.{IsConsistentAt}
+use Rattle.scattering.specs.Completion.{IsCompletion, lowered}
+use Rattle.scattering.specs.ActivePoint.{is_active}
+use Rattle.scattering.specs.Correction.{Lie, ratio_at, IsCorrection, IsWhole, Corrections, AreCorrections, IsMerged, raised}
+
+-- ---- corrections
+
+-- at each point there is a correction, and it is whole
+abbrev pub CorrectionExists : Type 0
+CorrectionExists = (given : List Wall) (n m : ℕ) (e : Diagram) (p : Point) → n + 1 ≤ m → Every (IsWall m) given → Every IsInitial given → IsCompletion given n e → IsPoint p
+    → (h : Lie) × IsCorrection (walls (raised given n e)) p (n + 1) h × Every IsWhole h
+
+-- and there is only one
+abbrev pub CorrectionIsUnique : Type 0
+CorrectionIsUnique = (ws : List Wall) (p : Point) (n : ℕ) (h h' : Lie) → IsCorrection ws p n h → IsCorrection ws p n h' → (k : Key) → ratio_at h k ≡ ratio_at h' k
+
+-- ---- active points
+
+-- a ray of a completion starts at a point that is active at the next order
+abbrev pub RaysStartAtActivePoints : Type 0
+RaysStartAtActivePoints = (given : List Wall) (n m : ℕ) (e : Diagram) (r : Wall) → n + 1 ≤ m → Every (IsWall m) given → Every IsInitial given → IsCompletion given n e → In r e.rays
+    → IsTrue (is_active (n + 1) (walls (raised given n e)) r.at)
+
+-- a point that isn't active at the next order is consistent at it
+abbrev pub PassivePointsAreConsistent : Type 0
+PassivePointsAreConsistent = (given : List Wall) (n m : ℕ) (e : Diagram) (p : Point) → n + 1 ≤ m → Every (IsWall m) given → Every IsInitial given → IsCompletion given n e → IsPoint p
+    → IsFalse (is_active (n + 1) (walls (raised given n e)) p) → IsConsistentAt (walls (raised given n e)) (n + 1) p
+
+-- ---- completions
+
+-- with the corrections at all active points the completion of order n becomes that of order n + 1
+abbrev pub NextOrderCompletes : Type 0
+NextOrderCompletes = (given : List Wall) (n m : ℕ) (e e' : Diagram) (cs : Corrections) → n + 1 ≤ m → Every (IsWall m) given → Every IsInitial given → IsCompletion given n e
+    → AreCorrections (walls (raised given n e)) (n + 1) cs → IsMerged given e cs (n + 1) e' → IsCompletion given (n + 1) e'
+
+-- there is at most one completion
+abbrev pub CompletionIsUnique : Type 0
+CompletionIsUnique = (given : List Wall) (n m : ℕ) (e e' : Diagram) → n ≤ m → Every (IsWall m) given → IsCompletion given n e → IsCompletion given n e' → e ≡ e'
+
+-- a completion cut to a lower order is the completion of that order
+abbrev pub LowerOrdersComplete : Type 0
+LowerOrdersComplete = (given : List Wall) (n m k : ℕ) (e : Diagram) → n ≤ m → m ≤ k → Every (IsWall k) given → IsCompletion given m e → IsCompletion given n (lowered n e)
