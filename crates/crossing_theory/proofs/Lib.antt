@@ -1,5 +1,7 @@
 pub mod AddedTerms
+pub mod BracketLaws
 pub mod Carrying
+pub mod CrossingLaws
 pub mod CutFunctions
 pub mod HalfWalls
 pub mod Keys

@@ -100,7 +100,7 @@ rest-split φ (t ∷ f) = go (key_eq t.0 D.unit) refl (rest-split φ f)
     go true e h = rw (e, h, key_eq-same t.0 D.unit e) (ring ints_ring (t.1 ∷ φ D.unit ∷ coef f D.unit ∷ pair φ (rest f) ∷ []) (X :* Y :+ (Z :* Y :+ var 3)) ((X :+ Z) :* Y :+ var 3) refl)
     go false e h = rw (e, h) (ring ints_ring (t.1 ∷ φ D.unit ∷ coef f D.unit ∷ pair φ (rest f) ∷ φ t.0 ∷ []) (X :* var 4 :+ (Z :* Y :+ var 3)) ((nought :+ Z) :* Y :+ (X :* var 4 :+ var 3)) refl)
 
-pair-minus : (φ : Key → ℤ) (f : Sum) → pair φ (D.minus f) ≡ neg_ℤ (pair φ f)
+pub pair-minus : (φ : Key → ℤ) (f : Sum) → pair φ (D.minus f) ≡ neg_ℤ (pair φ f)
 pair-minus φ [] = refl
 pair-minus φ (t ∷ f) = rw (pair-minus φ f) (ring ints_ring (t.1 ∷ φ t.0 ∷ pair φ f ∷ []) (minus X :* Y :+ minus Z) (minus (X :* Y :+ Z)) refl)
 

@@ -1,4 +1,5 @@
 pub mod ActivePoint
+pub mod Bracket
 pub mod BrokenLine
 pub mod Collections
 pub mod Completion
