@@ -14,7 +14,7 @@ use Rattle.crossing_theory.proofs.OtherFunctions.{of_halves}
 use Rattle.crossing_theory.proofs.LocalProductLaws.{auto-carry}
 use Rattle.correction_theory.proofs.LogarithmicDerivative.{flux}
 use Rattle.correction_theory.proofs.Correction.{built, right-everywhere}
-use Rattle.completion_theory.proofs.RaisedDiagram.{lift_wall, lifted, cut-lifted, Given, given-lift, givens}
+use Rattle.completion_theory.proofs.RaisedDiagram.{lift_wall, lifted, cut-lifted, Given, given-lift, givens, lifted-proper}
 use Rattle.completion_theory.proofs.LowerOrders.{image-cut}
 use Rattle.completion_theory.proofs.UniqueCompletion.{on_axis}
 use Rattle.completion_theory.specs.Laws.{CorrectionExists}
@@ -46,10 +46,7 @@ at-next given rays n p gs hr c = correction n ws p pr (low axis_x c.x) (low axis
     ws = lifted n (suc n) given rays
 
     pr : Every Proper (lifted n (suc n) given rays)
-    pr =
-        Every-append Proper (map (lift_wall n (suc n)) given) rays
-        (Every-implies Given Proper (map (lift_wall n (suc n)) given) (λ w g. g.proper) (Every-mapped Given (lift_wall n (suc n)) given (given-lift n (suc n)) gs))
-        (Every-implies _ Proper rays (λ r w. proper n r w) hr)
+    pr = lifted-proper n (suc n) given rays gs (Every-implies _ Proper rays (λ r w. proper n r w) hr)
 
     low : (m : Exp) → SameTo n (image (cut_walls n given ++ rays) p n m) (monomial (z m)) → Eq n (image (lifted n (suc n) given rays) p (suc n) m) (monomial (z m))
     low m h =

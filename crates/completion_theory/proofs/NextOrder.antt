@@ -32,7 +32,7 @@ use Rattle.correction_theory.proofs.RayGains.{less, less-back, ray-gains, coef-g
 use Rattle.correction_theory.proofs.StrictOrder.{coef-none}
 use Rattle.correction_theory.proofs.ReducedRays.{rays-unique}
 use Rattle.completion_theory.proofs.RayStarts.{initial-gain}
-use Rattle.completion_theory.proofs.RaisedDiagram.{cut-cut, lift_wall, lifted, cut-lifted, Given, given-lift, givens, passive-image}
+use Rattle.completion_theory.proofs.RaisedDiagram.{cut-cut, lift_wall, lifted, cut-lifted, Given, given-lift, givens, passive-image, lifted-proper}
 use Rattle.crossing_theory.proofs.LiveWalls.{scale-not_origin, direction-not_origin}
 use Rattle.completion_theory.proofs.LowerOrders.{image-cut, directed-cut, every-wall-cut, every-outgoing, reduced-lower}
 use Rattle.completion_theory.proofs.UniqueCompletion.{image-next, on_axis, ray_coef-live, ray_coef-cut, ray_coef-high}
@@ -189,10 +189,7 @@ module _ (given : List Wall) (n k : ℕ) (le : suc n ≤ k) (hg : Every (IsWall 
   gs = givens k given hg hk
 
   proper-ws : Every Proper ws
-  proper-ws =
-      Every-append Proper (map (lift_wall n (suc n)) given) e.rays
-      (Every-implies Given Proper (map (lift_wall n (suc n)) given) (λ w g. g.proper) (Every-mapped Given (lift_wall n (suc n)) given (given-lift n (suc n)) gs))
-      (Every-implies _ Proper e.rays (λ r w. proper n r w) c.proper)
+  proper-ws = lifted-proper n (suc n) given e.rays gs (Every-implies _ Proper e.rays (λ r w. proper n r w) c.proper)
 
   -- the corrections have terms of degree n + 1 alone
   no-lower : (p : Point) (q : Key) (v : ℤ) → degree q ≤ n → IsAdded cs p q v → v ≡ pos 0

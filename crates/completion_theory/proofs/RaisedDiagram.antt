@@ -88,6 +88,11 @@ given-lift n j w g = go (is_incoming w.kind) refl
     go true e = rw e (given-cut j w g)
     go false e = rw e (given-cut n w g)
 
+pub lifted-proper : (n j : ℕ) (given rays : List Wall) → Every Given given → Every Proper rays → Every Proper (lifted n j given rays)
+lifted-proper n j given rays gs pr =
+    Every-append Proper (map (lift_wall n j) given) rays
+    (Every-implies Given Proper (map (lift_wall n j) given) (λ w g. g.proper) (Every-mapped Given (lift_wall n j) given (given-lift n j) gs)) pr
+
 -- ---- a point that isn't active
 
 pub quiet-of : (k : ℕ) (ws : List Wall) (p : Point) → is_active k ws p ≡ false → Quiet k ws p

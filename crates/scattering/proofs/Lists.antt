@@ -1,5 +1,5 @@
 -- Lists: what holds of every element, of every pair, and which elements a list has.
-use Rattle.std.proofs.Common.{◌≡◌, refl, subst, sym, ◌∙◌, ap, List, [], ◌∷◌, ◌++◌, map, Bool, true, false, inl, inr, ◌⊎◌}
+use Rattle.std.proofs.Common.{◌≡◌, refl, subst, sym, ◌∙◌, ap, List, [], ◌∷◌, ◌++◌, map, Bool, true, false, inl, inr, ◌⊎◌, not}
 use Rattle.std.specs.Prelude.{filter, flat_map, ◌||◌, ◌&&◌}
 use Rattle.std.specs.List.{list_any}
 use Rattle.scattering.specs.Collections.{In, Every, EveryPair, put, in_order}
@@ -156,3 +156,47 @@ filters-every P a b (x ∷ xs) h = go (filters-every P a b xs) (a x) refl (b x) 
 pub Every-mapped : {A : Type 0} (P : A → Type 0) (f : A → A) (xs : List A) → ((x : A) → P x → P (f x)) → Every P xs → Every P (map f xs)
 Every-mapped P f [] i h = tt
 Every-mapped P f (x ∷ xs) i h = (i x h.0, Every-mapped P f xs i h.1)
+
+or-true : (a b : Bool) → b ≡ true → (a || b) ≡ true
+or-true true b e = refl
+or-true false b e = e
+
+-- a test that some element passes
+pub any-true : {A : Type 0} (P : A → Bool) (xs : List A) (x : A) → In x xs → P x ≡ true → list_any P xs ≡ true
+any-true P [] x i e = absurd i
+any-true P (y ∷ ys) x (inl q) e = ap (λ (b : Bool). b || list_any P ys) (sym (ap P q) ∙ e)
+any-true P (y ∷ ys) x (inr i) e = or-true (P y) (list_any P ys) (any-true P ys x i e)
+
+pub any-some : {A : Type 0} (P : A → Bool) (xs : List A) → list_any P xs ≡ true → (x : A) × In x xs × (P x ≡ true)
+any-some {A = A} P [] e = absurd (cc)
+any-some {A = A} P (y ∷ ys) e = go (P y) refl (any-some P ys)
+  where
+    go : (b : Bool) → P y ≡ b → (list_any P ys ≡ true → (x : A) × In x ys × (P x ≡ true)) → (x : A) × In x (y ∷ ys) × (P x ≡ true)
+    go true q f = (y, inl refl, q)
+    go false q f = let r = f (rw q at e) in (r.0, inr r.1, r.2)
+
+pub or-out : (a b : Bool) → (a || b) ≡ true → (a ≡ true) ⊎ (b ≡ true)
+or-out true b e = inl refl
+or-out false b e = inr e
+
+pub and-in : (a b : Bool) → a ≡ true → b ≡ true → (a && b) ≡ true
+and-in true b e f = f
+and-in false b e f = absurd (cc)
+
+pub not-out : (b : Bool) → not b ≡ true → b ≡ false
+not-out true e = absurd (cc)
+not-out false e = refl
+
+pub In-mapped : {A B : Type 0} (f : A → B) (xs : List A) (x : A) → In x xs → In (f x) (map f xs)
+In-mapped f [] x i = absurd i
+In-mapped f (y ∷ ys) x (inl e) = inl (ap f e)
+In-mapped f (y ∷ ys) x (inr i) = inr (In-mapped f ys x i)
+
+pub In-left : {A : Type 0} (xs ys : List A) (x : A) → In x xs → In x (xs ++ ys)
+In-left [] ys x i = absurd i
+In-left (z ∷ xs) ys x (inl e) = inl e
+In-left (z ∷ xs) ys x (inr i) = inr (In-left xs ys x i)
+
+pub In-right : {A : Type 0} (xs ys : List A) (x : A) → In x ys → In x (xs ++ ys)
+In-right [] ys x i = i
+In-right (z ∷ xs) ys x i = inr (In-right xs ys x i)
