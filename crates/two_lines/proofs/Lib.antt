@@ -1,1 +1,3 @@
 mod Commutator
+mod HalfWalls
+mod OriginImage
