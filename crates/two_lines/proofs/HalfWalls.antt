@@ -149,7 +149,7 @@ both-sorted u v a b =
 
 -- ---- at the origin
 
-line-on : (d : Exp) (f : Sum) → is_on (line d f) origin_point ≡ true
+pub line-on : (d : Exp) (f : Sum) → is_on (line d f) origin_point ≡ true
 line-on d f = ap (λ (n : ℤ). int_eq n (pos 0) && true) (ring ints_ring (d.a ∷ d.b ∷ []) (X :* nought :- Y :* nought) nought refl)
 
 line-halves : (d : Exp) (f : Sum) → halves origin_point (line d f) ≡ half (line d f) (pos 1) ∷ half (line d f) (negsuc 0) ∷ []

@@ -1,3 +1,4 @@
 mod Commutator
 mod HalfWalls
 mod OriginImage
+mod ActivePoints

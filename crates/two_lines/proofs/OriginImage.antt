@@ -67,3 +67,68 @@ module _ (u v : Wall) (p q : Term) (hu : Linear u p) (hv : Linear v q) (m : Exp)
     where
       through : (h : Half) → Proper h.wall → (f g : Sum) → Eq 2 f g → Eq 2 (cross_half 2 h f) (crossing 2 h.wall.dir (sign h) h.wall.function g)
       through h pr f g e = Eq-trans 2 _ _ _ (as_crossing 2 h pr f) (crossing-same h.wall.dir (sign h) 2 h.wall.function pr.along f g e)
+
+-- ---- read at the keys of degree 2
+
+-- minus |det(u, v)| times the two coefficients, at the product of the two terms' keys
+abbrev pub bracket_at : Exp → Exp → Term → Term → Key → ℤ
+bracket_at d e p q k = cond (key_eq (key_mul p.0 q.0) k) (neg_ℤ (pos (nat_abs (det d e)) *ℤ (p.1 *ℤ q.1))) (pos 0)
+
+module _ (m : Exp) (k : Key) (deg : degree k ≡ 2) where
+  apart : key_eq (z m) (key_mul k (z m)) ≡ false
+  apart = go (key_eq (z m) (key_mul k (z m))) refl
+    where
+      go : (b : Bool) → key_eq (z m) (key_mul k (z m)) ≡ b → b ≡ false
+      go false e = refl
+      go true e = let h : degree (z m) ≡ degree (key_mul k (z m)) = ap degree (key_eq-same (z m) (key_mul k (z m)) e) in let i = keys.deg_mul k (z m) in absurd (omega (arith, h, i, deg))
+
+  moved : (x : Key) → key_eq (key_mul (z m) x) (key_mul k (z m)) ≡ key_eq x k
+  moved x = moved-test (key_mul k (z m)) x m ∙ ap (λ (y : Key). key_eq x (less y m)) (keys.comm k (z m)) ∙ ap (λ (y : Key). key_eq x y) (less-forth k m)
+
+  coef-two : (x : Key) (n : ℤ) → coef (monomial (z m) ++ (key_mul (z m) x, n *ℤ det x.exp m) ∷ []) (key_mul k (z m)) ≡ cond (key_eq x k) n (pos 0) *ℤ det k.exp m
+  coef-two x n = rw (apart, moved x) (go (key_eq x k) refl)
+    where
+      go : (b : Bool) → key_eq x k ≡ b → pos 0 +ℤ (cond b (n *ℤ det x.exp m) (pos 0) +ℤ pos 0) ≡ cond b n (pos 0) *ℤ det k.exp m
+      go true e = ring ints_ring ((n *ℤ det x.exp m) ∷ []) (nought :+ (X :+ nought)) X refl ∙ ap (λ (y : Key). n *ℤ det y.exp m) (key_eq-same x k e)
+      go false e = ring ints_ring (det k.exp m ∷ []) (nought :+ (nought :+ nought)) (nought :* X) refl
+
+  turned : (u v : Wall) (p q : Term) → Linear u p → Linear v q → (hs : List Half) → Turns hs u v → coef (carry 2 hs (monomial (z m))) (key_mul k (z m)) ≡ bracket_at u.dir v.dir p q k *ℤ det k.exp m
+  turned u v p q hu hv hs r =
+      ap (λ hs. coef (carry 2 hs (monomial (z m))) (key_mul k (z m))) (r.sorted ∙ sides)
+      ∙ from_Eq 2 _ _ (carried u v p q hu hv m (sign_of r.s) (sign_of r.t)) (key_mul k (z m)) (let i = keys.deg_mul k (z m) in omega (arith, i, deg))
+      ∙ coef-two (key_mul p.0 q.0) (neg_ℤ (sign_of r.s *ℤ sign_of r.t *ℤ det u.dir v.dir) *ℤ (p.1 *ℤ q.1))
+      ∙ ap (λ (n : ℤ). cond (key_eq (key_mul p.0 q.0) k) (neg_ℤ n *ℤ (p.1 *ℤ q.1)) (pos 0) *ℤ det k.exp m) r.positive
+      ∙ ap (λ (n : ℤ). cond (key_eq (key_mul p.0 q.0) k) n (pos 0) *ℤ det k.exp m) (ring ints_ring (pos (nat_abs (det u.dir v.dir)) ∷ (p.1 *ℤ q.1) ∷ []) (minus X :* Y) (minus (X :* Y)) refl)
+    where
+      sides : half u (sign_of r.s) ∷ half v (sign_of r.t) ∷ half u (sign_of (not r.s)) ∷ half v (sign_of (not r.t)) ∷ []
+          ≡ half u (sign_of r.s) ∷ half v (sign_of r.t) ∷ half u (neg_ℤ (sign_of r.s)) ∷ half v (neg_ℤ (sign_of r.t)) ∷ []
+      sides = sym (λ i. half u (sign_of r.s) ∷ half v (sign_of r.t) ∷ half u (sign-not r.s i) ∷ half v (sign-not r.t i) ∷ [])
+
+-- the other way round
+bracket-swapped : (d e : Exp) (p q : Term) (k : Key) → bracket_at e d q p k ≡ bracket_at d e p q k
+bracket-swapped d e p q k =
+    ap (λ (x : Key). cond (key_eq x k) (neg_ℤ (pos (nat_abs (det e d)) *ℤ (q.1 *ℤ p.1))) (pos 0)) (keys.comm q.0 p.0)
+    ∙ ap (λ (n : ℤ). cond (key_eq (key_mul p.0 q.0) k) (neg_ℤ (pos n' *ℤ n)) (pos 0)) (ring ints_ring (q.1 ∷ p.1 ∷ []) (X :* Y) (Y :* X) refl)
+    ∙ ap (λ n. cond (key_eq (key_mul p.0 q.0) k) (neg_ℤ (pos n *ℤ (p.1 *ℤ q.1))) (pos 0)) same_size
+  where
+    n' : ℕ
+    n' = nat_abs (det e d)
+
+    size : (x : ℤ) → nat_abs (neg_ℤ x) ≡ nat_abs x
+    size x = grind (arith, ints)
+
+    same_size : nat_abs (det e d) ≡ nat_abs (det d e)
+    same_size = ap nat_abs (ring ints_ring (d.a ∷ d.b ∷ e.a ∷ e.b ∷ []) (Z :* Y :- W :* X) (minus (X :* W :- Y :* Z)) refl) ∙ size (det d e)
+
+-- the image of z^m, for lines that aren't parallel
+pub image-coef : (d e : Exp) (f g : Sum) (p q : Term) → d ≢ origin → e ≢ origin → det d e ≢ pos 0 → Linear (line d f) p → Linear (line e g) q → (m : Exp) (k : Key) → degree k ≡ 2
+    → coef (image (line d f ∷ line e g ∷ []) origin_point 2 m) (key_mul k (z m)) ≡ bracket_at d e p q k *ℤ det k.exp m
+image-coef d e f g p q nd ne cross hu hv m k deg = go (turns d e f g nd ne cross)
+  where
+    hs : List Half
+    hs = half_walls (line d f ∷ line e g ∷ []) origin_point
+
+    go : Turns (half_walls (line d f ∷ line e g ∷ []) origin_point) (line d f) (line e g) ⊎ Turns (half_walls (line d f ∷ line e g ∷ []) origin_point) (line e g) (line d f)
+        → coef (image (line d f ∷ line e g ∷ []) origin_point 2 m) (key_mul k (z m)) ≡ bracket_at d e p q k *ℤ det k.exp m
+    go (inl r) = turned m k deg (line d f) (line e g) p q hu hv hs r
+    go (inr r) = turned m k deg (line e g) (line d f) q p hv hu hs r ∙ ap (λ (n : ℤ). n *ℤ det k.exp m) (bracket-swapped d e p q k)
