@@ -2,3 +2,4 @@ mod Commutator
 mod HalfWalls
 mod OriginImage
 mod ActivePoints
+mod Ray
