@@ -9,7 +9,7 @@ use Rattle.sum_algebra.specs.Ring.{var, minus, nought, ring}
 use Rattle.sum_algebra.specs.Ring as E
 use Rattle.sum_algebra.specs.RingUse.{ints_ring, ◌:+◌, ◌:*◌, ◌:-◌, X, Y, Z, W}
 use Rattle.scattering.specs.Collections.{In, Every}
-use Rattle.scattering.specs.Series.{Sum, Exp, Term, degree, rest, cut, det, int_eq, key_eq, unit}
+use Rattle.scattering.specs.Series.{Sum, Exp, Term, degree, rest, cut, det, int_eq, exp_eq, key_eq, unit}
 use Rattle.scattering.specs.Plane.{Point, IsPoint, point_eq, difference}
 use Rattle.scattering.specs.Wall.{Wall, is_on, are_parallel, crosses_to}
 use Rattle.scattering.specs.Stops.{is_incoming, is_active, walls_on}
@@ -56,15 +56,12 @@ filter-swap a b (x ∷ xs) = go (a x) refl (b x) refl (filter-swap a b xs)
 pub rest-cut : (n : ℕ) (f : Sum) → rest (cut n f) ≡ cut n (rest f)
 rest-cut n f = filter-swap (λ (t : Term). not (key_eq t.0 unit)) (λ (t : Term). nat_le (degree t.0) n) f
 
-cut-empty : (f : Sum) → Every (λ t. 1 ≤ degree t.0) f → Every (λ t. degree t.0 ≢ 1) f → cut 1 f ≡ []
-cut-empty [] h n = refl
-cut-empty (t ∷ f) h n = rw (above (degree t.0) h.0 n.0) (cut-empty f h.1 n.1)
+pub cut-high : (n : ℕ) (f : Sum) → Every (λ t. n < degree t.0) f → cut n f ≡ []
+cut-high n [] h = refl
+cut-high n (t ∷ f) h = rw (above (degree t.0) h.0) (cut-high n f h.1)
   where
-    above : (d : ℕ) → 1 ≤ d → d ≢ 1 → nat_le d 1 ≡ false
-    above d le q = grind arith
-
-pub cut-no_linear : (f : Sum) → Every (λ t. 1 ≤ degree t.0) (rest f) → Every (λ t. degree t.0 ≢ 1) (rest f) → rest (cut 1 f) ≡ []
-cut-no_linear f h n = rest-cut 1 f ∙ cut-empty (rest f) h n
+    above : (d : ℕ) → n < d → nat_le d n ≡ false
+    above d l = grind arith
 
 pub cut-linear : (f : Sum) (s : Term) → rest f ≡ s ∷ [] → degree s.0 ≡ 1 → rest (cut 1 f) ≡ s ∷ []
 cut-linear f s e d = rest-cut 1 f ∙ ap (cut 1) e ∙ one d
@@ -100,6 +97,9 @@ dead-right n u v e =
 
 pub int-refl : (x : ℤ) → int_eq x x ≡ true
 int-refl x = grind (arith, ints)
+
+pub exp-itself : (d : Exp) → exp_eq d d ≡ true
+exp-itself d = rw (int-refl d.a, int-refl d.b) refl
 
 self-parallel : (d : Exp) (f : Sum) → are_parallel (line d f) (line d f) ≡ true
 self-parallel d f = ap (λ (n : ℤ). int_eq n (pos 0)) (ring ints_ring (d.a ∷ d.b ∷ []) (X :* Y :- Y :* X) nought refl)

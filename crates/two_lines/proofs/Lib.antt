@@ -3,3 +3,5 @@ mod HalfWalls
 mod OriginImage
 mod ActivePoints
 mod Ray
+mod SecondOrder
+mod Completes

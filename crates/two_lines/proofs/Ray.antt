@@ -20,16 +20,16 @@ pub origin-is_point : IsPoint origin_point
 origin-is_point = record { below = omega (arith, ints); lowest = λ d x y w. dvd_antisymm w (dvd_of_mod-eq-zero 1 (omega arith)) }
 
 -- an exponent with a gcd of at least 1
-gcd-not_origin : (m : Exp) (g : ℕ) → 1 ≤ g → IsGcd (nat_abs m.a) (nat_abs m.b) g → m ≢ origin
+pub gcd-not_origin : (m : Exp) (g : ℕ) → 1 ≤ g → IsGcd (nat_abs m.a) (nat_abs m.b) g → m ≢ origin
 gcd-not_origin m g le h e =
     let q : IsGcd 0 0 g = subst (λ (m : Exp). IsGcd (nat_abs m.a) (nat_abs m.b) g) e h in
     let z : g ≡ 0 = eq-zero_of_zero-dvd (q.2 0 (dvd_refl 0) (dvd_refl 0)) in omega (arith, le, z)
 
-positive-pos : (g : ℕ) → 1 ≤ g → pos 1 ≤ℤ pos g
+pub positive-pos : (g : ℕ) → 1 ≤ g → pos 1 ≤ℤ pos g
 positive-pos g le = omega (arith, ints, le)
 
 -- what is left of a multiple is a direction
-divided : (m d : Exp) (g : ℕ) → 1 ≤ g → IsGcd (nat_abs m.a) (nat_abs m.b) g → scale (pos g) d ≡ m → IsDirection d
+pub divided : (m d : Exp) (g : ℕ) → 1 ≤ g → IsGcd (nat_abs m.a) (nat_abs m.b) g → scale (pos g) d ≡ m → IsDirection d
 divided m d g le h e = go (as_multiple m (gcd-not_origin m g le h))
   where
     go : Multiple m → IsDirection d
@@ -56,7 +56,7 @@ other-way m n e = numbers m.a m.b (λ p q. n (λ i. record { a = p i; b = q i })
     numbers : (a b : ℤ) → (a ≡ pos 0 → b ≡ pos 0 → ⊥) → (int_lt a (pos 0) || (int_eq a (pos 0) && int_lt b (pos 0))) ≡ false → (int_lt (pos 0) a || (int_eq (pos 0) a && int_lt (pos 0) b)) ≡ true
     numbers a b n e = grind (arith, ints)
 
-two-sorted : (k : Key) (c : ℤ) → k.exp ≢ origin → Two k c (in_order (λ (p q : Term). key_before p.0 q.0) ((unit, pos 1) ∷ (k, c) ∷ []))
+pub two-sorted : (k : Key) (c : ℤ) → k.exp ≢ origin → Two k c (in_order (λ (p q : Term). key_before p.0 q.0) ((unit, pos 1) ∷ (k, c) ∷ []))
 two-sorted k c n = go (key_before k unit) refl
   where
     go : (b : Bool) → key_before k unit ≡ b → Two k c (in_order (λ (p q : Term). key_before p.0 q.0) ((unit, pos 1) ∷ (k, c) ∷ []))
