@@ -1,26 +1,36 @@
 -- Points that are active for two lines through the origin: none, or the origin alone.
-use Rattle.std.proofs.Common.{◌≡◌, ◌≢◌, ℕ, refl, subst, sym, ◌∙◌, ap, List, [], ◌∷◌, Bool, true, false, cond, not, ◌≤◌, ◌<◌, ◌+◌, arith, inl, inr, ◌⊎◌}
-use Rattle.std.specs.Prelude.{ℤ, pos, negsuc, ◌&&◌, ◌||◌, ◌+ℤ◌, ◌-ℤ◌, ◌*ℤ◌, neg_ℤ, ◌≤ℤ◌, nat_abs, nat_le, filter}
+use Rattle.std.proofs.Common.{◌≡◌, ◌≢◌, ℕ, refl, subst, sym, ◌∙◌, ap, List, [], ◌∷◌, Bool, true, false, not, ◌<◌, ◌+◌, arith, inl, inr, ◌⊎◌}
+use Rattle.std.specs.Prelude.{ℤ, pos, ◌&&◌, ◌||◌, ◌-ℤ◌, ◌*ℤ◌, ◌≤ℤ◌, nat_abs, nat_le, filter}
 use Rattle.std.specs.Int.{◌∣◌}
 use Rattle.std.specs.List.{list_any}
 use Rattle.std.proofs.lemmas.Int.{ints}
 use Rattle.std.proofs.lemmas.Nat.Gcd.{dvd_refl, dvd_of_mod-eq-zero}
 use Rattle.sum_algebra.specs.Ring.{var, minus, nought, ring}
 use Rattle.sum_algebra.specs.Ring as E
-use Rattle.sum_algebra.specs.RingUse.{ints_ring, ◌:+◌, ◌:*◌, ◌:-◌, X, Y, Z, W}
+use Rattle.sum_algebra.specs.RingUse.{ints_ring, ◌:*◌, ◌:-◌, X, Y, Z, W}
 use Rattle.scattering.specs.Collections.{In, Every}
 use Rattle.scattering.specs.Series.{Sum, Exp, Term, degree, rest, cut, det, int_eq, exp_eq, key_eq, unit}
 use Rattle.scattering.specs.Plane.{Point, IsPoint, point_eq, difference}
-use Rattle.scattering.specs.Wall.{Wall, is_on, are_parallel, crosses_to}
+use Rattle.scattering.specs.Wall.{Wall, is_on, are_parallel, has_term_to, crosses_to}
 use Rattle.scattering.specs.Stops.{is_incoming, is_active, walls_on}
-use Rattle.completion_theory.proofs.Halves.{or-left, or-right}
-use Rattle.completion_theory.proofs.Passive.{any-none, In-filter}
+use Rattle.completion_theory.proofs.Passive.{In-filter}
 use Rattle.completion_theory.proofs.Starts.{any-false}
 use Rattle.completion_theory.proofs.Same.{filter-In}
-use Rattle.completion_theory.proofs.Change.{and-left, and-right}
+use Rattle.completion_theory.proofs.Change.{and-left}
 use Rattle.completion_theory.proofs.Whole.{zero-factor}
-use Rattle.two_lines.specs.ClosedForm.{origin_point, HasNoLinearTerm}
+use Rattle.two_lines.specs.ClosedForm.{origin_point}
 use Rattle.two_lines.proofs.HalfWalls.{line, line-on}
+
+and_false : (b : Bool) → (b && false) ≡ false
+and_false true = refl
+and_false false = refl
+
+pub differ : (b : Bool) → b ≡ true → b ≡ false → ⊥
+differ true q r = cc
+differ false q r = cc
+
+pub int_eq-same : (x y : ℤ) → int_eq x y ≡ true → x ≡ y
+int_eq-same x y q = grind (arith, ints)
 
 -- ---- tests on lists
 
@@ -81,19 +91,11 @@ pub dead-left : (n : ℕ) (u v : Wall) → rest u.function ≡ [] → crosses_to
 dead-left n u v e =
     ap (λ (f : Sum). not (are_parallel u v) && list_any (λ (s : Term). list_any (λ (t : Term). nat_le (degree s.0 + degree t.0) n) (rest v.function)) f) e
     ∙ and_false (not (are_parallel u v))
-  where
-    and_false : (b : Bool) → (b && false) ≡ false
-    and_false true = refl
-    and_false false = refl
 
 pub dead-right : (n : ℕ) (u v : Wall) → rest v.function ≡ [] → crosses_to n u v ≡ false
 dead-right n u v e =
     ap (λ (f : Sum). not (are_parallel u v) && list_any (λ (s : Term). list_any (λ (t : Term). nat_le (degree s.0 + degree t.0) n) f) (rest u.function)) e
     ∙ ap (λ b. not (are_parallel u v) && b) (any-false (λ (s : Term). false) (rest u.function) (λ x i. refl)) ∙ and_false (not (are_parallel u v))
-  where
-    and_false : (b : Bool) → (b && false) ≡ false
-    and_false true = refl
-    and_false false = refl
 
 pub int-refl : (x : ℤ) → int_eq x x ≡ true
 int-refl x = grind (arith, ints)
@@ -115,16 +117,16 @@ module _ (d e : Exp) (f g : Sum) where
   cases w (inr (inl q)) = inr q
   cases w (inr (inr i)) = absurd i
 
-  not_incoming : (n : ℕ) (p : Point) → (w : Wall) → In w (line d f ∷ line e g ∷ []) → (is_incoming w.kind && point_eq w.at p && Rattle.scattering.specs.Wall.has_term_to n w) ≡ false
+  not_incoming : (n : ℕ) (p : Point) → (w : Wall) → In w (line d f ∷ line e g ∷ []) → (is_incoming w.kind && point_eq w.at p && has_term_to n w) ≡ false
   not_incoming n p w i = go (cases w i)
     where
-      go : (w ≡ line d f) ⊎ (w ≡ line e g) → (is_incoming w.kind && point_eq w.at p && Rattle.scattering.specs.Wall.has_term_to n w) ≡ false
-      go (inl q) = subst (λ (w : Wall). (is_incoming w.kind && point_eq w.at p && Rattle.scattering.specs.Wall.has_term_to n w) ≡ false) (sym q) refl
-      go (inr q) = subst (λ (w : Wall). (is_incoming w.kind && point_eq w.at p && Rattle.scattering.specs.Wall.has_term_to n w) ≡ false) (sym q) refl
+      go : (w ≡ line d f) ⊎ (w ≡ line e g) → (is_incoming w.kind && point_eq w.at p && has_term_to n w) ≡ false
+      go (inl q) = subst (λ (w : Wall). (is_incoming w.kind && point_eq w.at p && has_term_to n w) ≡ false) (sym q) refl
+      go (inr q) = subst (λ (w : Wall). (is_incoming w.kind && point_eq w.at p && has_term_to n w) ≡ false) (sym q) refl
 
   pub passive : (n : ℕ) → crosses_to n (line d f) (line e g) ≡ false → crosses_to n (line e g) (line d f) ≡ false → (p : Point) → is_active n (line d f ∷ line e g ∷ []) p ≡ false
   passive n h k p =
-      ap (λ b. b || list_any (λ (w : Wall). is_incoming w.kind && point_eq w.at p && Rattle.scattering.specs.Wall.has_term_to n w) both)
+      ap (λ b. b || list_any (λ (w : Wall). is_incoming w.kind && point_eq w.at p && has_term_to n w) both)
       (any-false (λ u. list_any (crosses_to n u) (walls_on both p)) (walls_on both p) (λ u i. any-false (crosses_to n u) (walls_on both p) (λ v j. quiet u v (cases u (filter-In (λ w. is_on w p) both u i).0) (cases v (filter-In (λ w. is_on w p) both v j).0))))
       ∙ any-false _ both (not_incoming n p)
     where
@@ -147,9 +149,6 @@ module _ (d e : Exp) (f g : Sum) where
           ∙ ap (λ (n : ℤ). e.b *ℤ n -ℤ d.b *ℤ (e.a *ℤ y -ℤ e.b *ℤ x)) h ∙ ap (λ (n : ℤ). e.b *ℤ pos 0 -ℤ d.b *ℤ n) k
           ∙ ring ints_ring (e.b ∷ d.b ∷ []) (X :* nought :- Y :* nought) nought refl),
     )
-
-    int_eq-same : (x y : ℤ) → int_eq x y ≡ true → x ≡ y
-    int_eq-same x y q = grind (arith, ints)
 
     on-det : (d : Exp) (f : Sum) (p : Point) → is_on (line d f) p ≡ true → d.a *ℤ p.y -ℤ d.b *ℤ p.x ≡ pos 0
     on-det d f p h =
@@ -179,10 +178,6 @@ module _ (d e : Exp) (f g : Sum) where
         crossing : list_any (λ u. list_any (crosses_to n u) (walls_on both p)) (walls_on both p) ≡ true
         crossing = or_false _ _ (any-false _ both (not_incoming n p)) h
 
-        differ : (b : Bool) → b ≡ true → b ≡ false → ⊥
-        differ true q r = cc
-        differ false q r = cc
-
         by_walls : (u v : Wall) → crosses_to n u v ≡ true → is_on u p ≡ true → is_on v p ≡ true → (u ≡ line d f) ⊎ (u ≡ line e g) → (v ≡ line d f) ⊎ (v ≡ line e g) → p ≡ origin_point
         by_walls u v c i j (inl a) (inl b) = absurd (differ _ c (ap (λ (u : Wall). crosses_to n u v) a ∙ ap (crosses_to n (line d f)) b ∙ parallel-quiet n (line d f) (line d f) (self-parallel d f)))
         by_walls u v c i j (inl a) (inr b) = here (subst (λ (w : Wall). is_on w p ≡ true) a i) (subst (λ (w : Wall). is_on w p ≡ true) b j)
@@ -204,7 +199,7 @@ module _ (d e : Exp) (f g : Sum) where
 
     pub active-at : (s t : Term) → rest f ≡ s ∷ [] → rest g ≡ t ∷ [] → degree s.0 ≡ 1 → degree t.0 ≡ 1 → is_active 2 (line d f ∷ line e g ∷ []) origin_point ≡ true
     active-at s t hs ht ds dt =
-        ap (λ b. b || list_any (λ (w : Wall). is_incoming w.kind && point_eq w.at origin_point && Rattle.scattering.specs.Wall.has_term_to 2 w) both)
+        ap (λ b. b || list_any (λ (w : Wall). is_incoming w.kind && point_eq w.at origin_point && has_term_to 2 w) both)
         (any-true (λ u. list_any (crosses_to 2 u) (walls_on both origin_point)) (walls_on both origin_point) (line d f) (In-filter (λ w. is_on w origin_point) both (line d f) (inl refl) (line-on d f))
         (any-true (crosses_to 2 (line d f)) (walls_on both origin_point) (line e g) (In-filter (λ w. is_on w origin_point) both (line e g) (inr (inl refl)) (line-on e g)) crosses))
       where

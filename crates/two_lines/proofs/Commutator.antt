@@ -1,5 +1,5 @@
 -- Two crossings whose functions are 1 and a term of degree 1: what their commutator adds modulo degree 3.
-use Rattle.std.proofs.Common.{◌≡◌, ℕ, zero, suc, refl, subst, sym, ◌∙◌, ap, List, [], ◌∷◌, ◌++◌, ◌≤◌, ◌<◌, ◌+◌, arith}
+use Rattle.std.proofs.Common.{◌≡◌, ℕ, zero, suc, refl, sym, ◌∙◌, ap, [], ◌∷◌, ◌++◌, ◌≤◌, ◌<◌, arith}
 use Rattle.std.specs.Prelude.{ℤ, pos, negsuc, ◌+ℤ◌, ◌-ℤ◌, ◌*ℤ◌, neg_ℤ}
 use mathlib.Core.Quot.{mk, sound}
 use Rattle.sum_algebra.specs.Ring.{CommRing, var, minus, nought, ring}
@@ -217,7 +217,7 @@ module _ (d e : Exp) (s t : ℤ) (f g : Sum) (w : C.Wall d f) (u : C.Wall e g) (
       V = multiple (turn e t x) ((key_mul q p, turn d s q *ℤ (c *ℤ b)) ∷ [])
 
       classes : ◌≡◌ {A = Modulo keys 2} (mk (crossing 2 e t g (image keys 2 f (inverse keys 2 f) (turn d s) x)))
-          (mk (crossing 2 d s f (image keys 2 g (inverse keys 2 g) (turn e t) x) ++ (S.mul keys (mono keys x) (multiple (turn d s x) ((key_mul p q, turn e t p *ℤ (b *ℤ c)) ∷ [])) ++ S.neg keys (S.mul keys (mono keys x) (multiple (turn e t x) ((key_mul q p, turn d s q *ℤ (c *ℤ b)) ∷ [])))))) 
+          (mk (crossing 2 d s f (image keys 2 g (inverse keys 2 g) (turn e t) x) ++ (S.mul keys (mono keys x) (multiple (turn d s x) ((key_mul p q, turn e t p *ℤ (b *ℤ c)) ∷ [])) ++ S.neg keys (S.mul keys (mono keys x) (multiple (turn e t x) ((key_mul q p, turn d s q *ℤ (c *ℤ b)) ∷ []))))))
       classes =
           let m = mk (mono keys x) in
           let P = mk (list_int_power keys f (inverse keys 2 f) (turn d s x)) in

@@ -1,15 +1,14 @@
 -- The closed form is a completion: order 0, and two steps.
-use Rattle.std.proofs.Common.{◌≡◌, ◌≢◌, ℕ, zero, suc, refl, subst, sym, ◌∙◌, ap, List, [], ◌∷◌, Bool, true, false, ◌≤◌, ◌<◌, ◌+◌, arith, inl, inr, ◌⊎◌}
-use Rattle.std.specs.Prelude.{ℤ, pos, neg_ℤ, IsTrue, IsFalse}
-use Rattle.std.proofs.lemmas.Int.{ints}
+use Rattle.std.proofs.Common.{◌≡◌, ◌≢◌, ℕ, zero, suc, refl, subst, sym, ◌∙◌, ap, List, [], ◌∷◌, true, false, ◌≤◌, ◌<◌, ◌+◌, arith, inl, inr}
+use Rattle.std.specs.Prelude.{ℤ, pos, neg_ℤ}
 use Rattle.sum_algebra.specs.Ring.{minus, ring}
 use Rattle.sum_algebra.specs.RingUse.{ints_ring, ◌:*◌, ◌:-◌, X, Y, Z, W}
 use Rattle.scattering.specs.Collections.{In, Every}
-use Rattle.scattering.specs.Series.{Sum, Exp, Term, degree, rest, cut, det, int_eq}
-use Rattle.scattering.specs.Plane.{Point, IsPoint}
-use Rattle.scattering.specs.Wall.{WallKind, Line, Incoming, Outgoing, Wall, Diagram, IsWall, are_parallel, crosses_to, cut_wall, cut_walls, walls}
+use Rattle.scattering.specs.Series.{Sum, Exp, Term, degree, rest, cut, det, int_eq, IsMultiple}
+use Rattle.scattering.specs.Plane.{Point}
+use Rattle.scattering.specs.Wall.{WallKind, Line, Incoming, Outgoing, Wall, Diagram, IsWall, crosses_to, cut_walls}
 use Rattle.scattering.specs.Completion.{IsCompletion}
-use Rattle.scattering.specs.Stops.{Lie, IsCorrection, is_active, raised}
+use Rattle.scattering.specs.Stops.{Lie, IsCorrection, is_active}
 use Rattle.scattering.specs.Laws.{IsInitial, IsWhole}
 use Rattle.completion_theory.proofs.Cut.{proper-cut}
 use Rattle.completion_theory.proofs.Exists.{correction_exists}
@@ -18,10 +17,10 @@ use Rattle.completion_theory.proofs.Live.{direction-not_origin}
 use Rattle.completion_theory.proofs.Same.{rest-nonzero}
 use Rattle.completion_theory.proofs.Start1.{starts}
 use Rattle.completion_theory.proofs.Step.{step_completes}
-use Rattle.two_lines.specs.ClosedForm.{origin_point, IsLineThroughOrigin, HasNoLinearTerm, HasNoRay, IsRayOf, HasRay, IsClosedForm, ClosedFormCompletes}
+use Rattle.two_lines.specs.ClosedForm.{origin_point, IsLineThroughOrigin, HasNoLinearTerm, HasNoRay, IsRayOf, IsClosedForm, ClosedFormCompletes}
 use Rattle.two_lines.proofs.HalfWalls.{line}
 use Rattle.two_lines.proofs.OriginImage.{Linear}
-use Rattle.two_lines.proofs.ActivePoints.{both, int-refl, cut-high, cut-linear, parallel-quiet, dead-left, dead-right, passive, active-only, active-at}
+use Rattle.two_lines.proofs.ActivePoints.{both, differ, int_eq-same, int-refl, rest-cut, cut-high, cut-linear, parallel-quiet, dead-left, dead-right, passive, active-only, active-at}
 use Rattle.two_lines.proofs.Ray.{origin-is_point}
 use Rattle.two_lines.proofs.SecondOrder.{ray-wall, ray-live, ray-added}
 
@@ -31,9 +30,6 @@ line-initial e = subst (λ (k : WallKind). elim k as (λ _. Type 0) [ Line ↦ U
 -- the lines alone, cut to an order
 abbrev pub bare : List Wall → ℕ → Diagram
 bare given n = record { initial = cut_walls n given; rays = [] }
-
-int_eq-same : (x y : ℤ) → int_eq x y ≡ true → x ≡ y
-int_eq-same x y q = grind (arith, ints)
 
 parallel-swap : (d e : Exp) → int_eq (det d e) (pos 0) ≡ true → int_eq (det e d) (pos 0) ≡ true
 parallel-swap d e h =
@@ -52,10 +48,6 @@ module _ (d e : Exp) (f g : Sum) (m : ℕ) (hf : IsWall m (line d f)) (hg : IsWa
       step_completes given n m (bare given n) (bare given (n + 1)) [] le (hf, (hg, tt)) initial c
       (record { each = tt; all = λ p ip t. absurd (differ _ t (passive_all p)); sorted = tt })
       (record { initial = refl; outgoing = tt; proper = tt; reduced = record { live = tt; rises = tt }; added = λ p d k hd j lj q. (pos 0, refl, refl) })
-    where
-      differ : (b : Bool) → b ≡ true → b ≡ false → ⊥
-      differ true q r = cc
-      differ false q r = cc
 
   order-zero : IsCompletion given 0 (bare given 0)
   order-zero = starts given m (hf, (hg, tt))
@@ -63,7 +55,7 @@ module _ (d e : Exp) (f g : Sum) (m : ℕ) (hf : IsWall m (line d f)) (hg : IsWa
   low-terms : (d : Exp) (f : Sum) → IsWall m (line d f) → Every (λ t. 0 < degree t.0) (rest f)
   low-terms d f h = by (rest f) h.function.others
     where
-      by : (r : Sum) → Every (λ t. (1 ≤ degree t.0) × Rattle.scattering.specs.Series.IsMultiple d t.0.exp) r → Every (λ t. 0 < degree t.0) r
+      by : (r : Sum) → Every (λ t. (1 ≤ degree t.0) × IsMultiple d t.0.exp) r → Every (λ t. 0 < degree t.0) r
       by [] i = tt
       by (t ∷ r) i = (above (degree t.0) i.0.0, by r i.1)
         where
@@ -76,11 +68,11 @@ module _ (d e : Exp) (f g : Sum) (m : ℕ) (hf : IsWall m (line d f)) (hg : IsWa
       (passive d e (cut 0 f) (cut 0 g) 1 (dead-left 1 (line d (cut 0 f)) (line e (cut 0 g)) dead) (dead-right 1 (line e (cut 0 g)) (line d (cut 0 f)) dead))
     where
       dead : rest (cut 0 f) ≡ []
-      dead = Rattle.two_lines.proofs.ActivePoints.rest-cut 0 f ∙ cut-high 0 (rest f) (low-terms d f hf)
+      dead = rest-cut 0 f ∙ cut-high 0 (rest f) (low-terms d f hf)
 
   -- a function without a term of degree 1
   dead-cut : (d : Exp) (f : Sum) → IsWall m (line d f) → HasNoLinearTerm (line d f) → rest (cut 1 f) ≡ []
-  dead-cut d f h n = Rattle.two_lines.proofs.ActivePoints.rest-cut 1 f ∙ cut-high 1 (rest f) (by (rest f) (low-terms d f h) n)
+  dead-cut d f h n = rest-cut 1 f ∙ cut-high 1 (rest f) (by (rest f) (low-terms d f h) n)
     where
       by : (r : Sum) → Every (λ t. 0 < degree t.0) r → Every (λ t. degree t.0 ≢ 1) r → Every (λ t. 1 < degree t.0) r
       by [] i j = tt
@@ -109,10 +101,6 @@ module _ (d e : Exp) (f g : Sum) (m : ℕ) (hf : IsWall m (line d f)) (hg : IsWa
   module _ (s t : Term) (of_u : rest f ≡ s ∷ []) (of_v : rest g ≡ t ∷ []) (linear_u : degree s.0 ≡ 1) (linear_v : degree t.0 ≡ 1) (crossing : int_eq (det d e) (pos 0) ≡ false) (r : Wall) (h : IsRayOf (line d f) (line e g) s t r) where
     cross : det d e ≢ pos 0
     cross z = differ (int_eq (det d e) (pos 0)) (ap (λ (n : ℤ). int_eq n (pos 0)) z ∙ int-refl (pos 0)) crossing
-      where
-        differ : (b : Bool) → b ≡ true → b ≡ false → ⊥
-        differ true q r = cc
-        differ false q r = cc
 
     linear-f : Linear (line d (cut 1 f)) s
     linear-f = record { proper = proper-cut 1 (line d f) (proper m (line d f) hf); alone = cut-linear f s of_u linear_u; linear = linear_u }

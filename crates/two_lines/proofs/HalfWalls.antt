@@ -1,13 +1,13 @@
 -- The half-walls of two lines at the origin, sorted by angle: those of the two lines alternate.
-use Rattle.std.proofs.Common.{◌≡◌, ◌≢◌, ℕ, refl, subst, sym, ◌∙◌, ap, List, [], ◌∷◌, ◌++◌, Bool, true, false, cond, not, arith, inl, inr, ◌⊎◌}
-use Rattle.std.specs.Prelude.{ℤ, pos, negsuc, ◌&&◌, ◌||◌, ◌+ℤ◌, ◌-ℤ◌, ◌*ℤ◌, neg_ℤ, ◌≤ℤ◌, int_lt, nat_abs}
+use Rattle.std.proofs.Common.{◌≡◌, ◌≢◌, refl, subst, sym, ◌∙◌, ap, List, [], ◌∷◌, ◌++◌, Bool, true, false, cond, not, arith, inl, inr, ◌⊎◌}
+use Rattle.std.specs.Prelude.{ℤ, pos, negsuc, ◌&&◌, ◌||◌, ◌*ℤ◌, neg_ℤ, ◌≤ℤ◌, int_lt, nat_abs}
 use Rattle.std.proofs.lemmas.Int.{ints}
 use Rattle.sum_algebra.specs.Ring.{var, minus, nought, ring}
 use Rattle.sum_algebra.specs.Ring as E
-use Rattle.sum_algebra.specs.RingUse.{ints_ring, ◌:+◌, ◌:*◌, ◌:-◌, X, Y, Z, W}
+use Rattle.sum_algebra.specs.RingUse.{ints_ring, ◌:*◌, ◌:-◌, X, Y, Z, W}
 use Rattle.scattering.specs.Collections.{put, in_order}
 use Rattle.scattering.specs.Series.{Sum, Exp, origin, scale, det, int_eq}
-use Rattle.scattering.specs.Plane.{Point, is_upper, turns_before}
+use Rattle.scattering.specs.Plane.{is_upper, turns_before}
 use Rattle.scattering.specs.Wall.{Line, Wall, is_on}
 use Rattle.scattering.specs.LocalProduct.{Half, along, halves, half_walls}
 use Rattle.completion_theory.proofs.Halves.{half}

@@ -5,3 +5,5 @@ mod ActivePoints
 mod Ray
 mod SecondOrder
 mod Completes
+mod Existence
+mod Examples

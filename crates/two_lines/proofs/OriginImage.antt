@@ -1,23 +1,23 @@
 -- The images of two lines at the origin at degree 2: one term more, for each line's term of degree 1.
-use Rattle.std.proofs.Common.{◌≡◌, ◌≢◌, ℕ, refl, subst, sym, ◌∙◌, ap, List, [], ◌∷◌, ◌++◌, Bool, true, false, cond, not, ◌≤◌, ◌+◌, arith, inl, inr, ◌⊎◌}
+use Rattle.std.proofs.Common.{◌≡◌, ◌≢◌, ℕ, refl, subst, sym, ◌∙◌, ap, List, [], ◌∷◌, ◌++◌, Bool, true, false, cond, not, ◌≤◌, arith, inl, inr, ◌⊎◌}
 use Rattle.std.specs.Prelude.{ℤ, pos, ◌+ℤ◌, ◌-ℤ◌, ◌*ℤ◌, neg_ℤ, nat_abs}
 use Rattle.std.proofs.lemmas.Int.{ints}
 use Rattle.sum_algebra.specs.Ring.{var, minus, nought, ring}
 use Rattle.sum_algebra.specs.Ring as E
 use Rattle.sum_algebra.specs.RingUse.{ints_ring, ◌:+◌, ◌:*◌, ◌:-◌, X, Y, Z, W}
+use Rattle.scattering.specs.Collections.{Every}
 use Rattle.scattering.specs.Series.{Key, Sum, Exp, Term, degree, rest, origin, coef, det, exp_add, key_eq, key_mul, z, monomial}
 use Rattle.scattering.specs.Series as D
 use Rattle.scattering.specs.Wall.{Wall}
 use Rattle.scattering.specs.LocalProduct.{Half, carry, cross_half, half_walls, image}
-use Rattle.scattering.proofs.Pairing.{coef-append}
 use Rattle.scattering.proofs.Keys.{key_eq-same}
 use Rattle.sum_algebra.specs.Sums.{pair}
-use Rattle.completion_theory.proofs.Concrete.{keys, turn, crossing, crossing-same}
-use Rattle.completion_theory.proofs.Bridge.{Eq, Eq-refl, Eq-trans, from_Eq, rest-split}
+use Rattle.completion_theory.proofs.Concrete.{keys, crossing, crossing-same}
+use Rattle.completion_theory.proofs.Bridge.{Eq, Eq-trans, from_Eq, rest-split}
 use Rattle.completion_theory.proofs.Halves.{Proper, half, sign, as_crossing}
 use Rattle.completion_theory.proofs.Rays.{less, less-forth, moved-test}
 use Rattle.two_lines.specs.ClosedForm.{origin_point}
-use Rattle.two_lines.proofs.Commutator.{OneAnd, excess, commutator}
+use Rattle.two_lines.proofs.Commutator.{OneAnd, commutator}
 use Rattle.two_lines.proofs.HalfWalls.{line, sign_of, sign-not, Turns, turns}
 
 -- the function is 1 and one term, of degree 1
@@ -34,7 +34,7 @@ linear-one w s h φ =
 -- the term's exponent lies along the wall
 along : (w : Wall) (s : Term) → Linear w s → (j : ℤ) × (s.0.exp.a ≡ j *ℤ w.dir.a) × (s.0.exp.b ≡ j *ℤ w.dir.b)
 along w s h =
-    let o = subst (λ (f : Sum). Rattle.scattering.specs.Collections.Every (λ t. (1 ≤ degree t.0) × D.IsMultiple w.dir t.0.exp) f) h.alone h.proper.others in
+    let o = subst (λ (f : Sum). Every (λ t. (1 ≤ degree t.0) × D.IsMultiple w.dir t.0.exp) f) h.alone h.proper.others in
     (o.0.1.0, ap (λ (m : Exp). m.a) o.0.1.2, ap (λ (m : Exp). m.b) o.0.1.2)
 
 formula : (s t da db ea eb ma mb b c j i pa pb qa qb : ℤ) → pa ≡ j *ℤ da → pb ≡ j *ℤ db → qa ≡ i *ℤ ea → qb ≡ i *ℤ eb

@@ -1,20 +1,17 @@
 -- The ray of the closed form is a live wall in one form, and its terms are read.
-use Rattle.std.proofs.Common.{◌≡◌, ◌≢◌, ℕ, zero, suc, refl, subst, sym, ◌∙◌, ap, List, [], ◌∷◌, Bool, true, false, cond, not, ◌≤◌, ◌+◌, arith, inl, inr, ◌⊎◌}
-use Rattle.std.specs.Prelude.{ℤ, pos, ◌&&◌, ◌||◌, ◌+ℤ◌, ◌*ℤ◌, neg_ℤ, ◌≤ℤ◌, nat_abs, int_lt, IsTrue}
-use Rattle.std.specs.Int.{◌∣◌, IsGcd}
-use Rattle.std.specs.List.{list_any}
+use Rattle.std.proofs.Common.{◌≡◌, ◌≢◌, ℕ, refl, subst, sym, ◌∙◌, ap, [], ◌∷◌, Bool, true, false, ◌≤◌, arith}
+use Rattle.std.specs.Prelude.{ℤ, pos, ◌&&◌, ◌||◌, ◌≤ℤ◌, nat_abs, int_lt}
+use Rattle.std.specs.Int.{IsGcd}
 use Rattle.std.proofs.lemmas.Int.{ints}
 use Rattle.std.proofs.lemmas.Nat.Gcd.{same_from_IsGcd, dvd_refl, dvd_antisymm, dvd_of_mod-eq-zero}
 use Rattle.std.proofs.Math.Nat.{eq-zero_of_zero-dvd}
-use Rattle.scattering.specs.Collections.{Every, EveryPair, in_order}
-use Rattle.scattering.specs.Series.{Key, Sum, Exp, Term, degree, rest, coef, origin, scale, det, unit, exp_add, key_eq, key_mul, key_before, exp_before, exp_eq, int_eq, IsSeries, IsWallFunction}
+use Rattle.scattering.specs.Collections.{Every, in_order}
+use Rattle.scattering.specs.Series.{Key, Sum, Exp, Term, degree, rest, coef, origin, scale, unit, key_eq, key_before, exp_before, int_eq, IsSeries, IsWallFunction, IsMultiple}
 use Rattle.scattering.specs.Plane.{IsPoint, IsDirection}
-use Rattle.scattering.specs.Wall.{Wall, IsWall, is_live}
 use Rattle.scattering.proofs.Keys.{key_eq-same}
-use Rattle.completion_theory.proofs.Concrete.{keys}
 use Rattle.completion_theory.proofs.Halves.{or-left}
-use Rattle.completion_theory.proofs.Whole.{Multiple, as_multiple, cancel, positive-not, zero-factor}
-use Rattle.two_lines.specs.ClosedForm.{origin_point, IsRayOf}
+use Rattle.completion_theory.proofs.Whole.{Multiple, as_multiple, cancel, positive-not}
+use Rattle.two_lines.specs.ClosedForm.{origin_point}
 
 pub origin-is_point : IsPoint origin_point
 origin-is_point = record { below = omega (arith, ints); lowest = λ d x y w. dvd_antisymm w (dvd_of_mod-eq-zero 1 (omega arith)) }
@@ -83,7 +80,7 @@ module _ (k : Key) (c : ℤ) (n : k.exp ≢ origin) where
   two-function f d g t nonzero deg le e = record {
     series = series t;
     constant = two-unit f t;
-    others = subst (Every (λ (t : Term). (1 ≤ degree t.0) × Rattle.scattering.specs.Series.IsMultiple d t.0.exp)) (sym (two-rest f t)) ((omega (arith, deg), (g, le, e)), tt);
+    others = subst (Every (λ (t : Term). (1 ≤ degree t.0) × IsMultiple d t.0.exp)) (sym (two-rest f t)) ((omega (arith, deg), (g, le, e)), tt);
   }
     where
       one-not : pos 1 ≢ pos 0

@@ -1,24 +1,22 @@
 -- The step to order 2 at the origin: the ray has what the correction asks for.
-use Rattle.std.proofs.Common.{◌≡◌, ◌≢◌, ℕ, refl, subst, sym, ◌∙◌, ap, List, [], ◌∷◌, Bool, true, false, cond, ◌≤◌, arith, inl, inr, ◌⊎◌}
+use Rattle.std.proofs.Common.{◌≡◌, ◌≢◌, ℕ, refl, subst, sym, ◌∙◌, ap, [], ◌∷◌, Bool, true, false, cond, arith, inl, inr, ◌⊎◌}
 use Rattle.std.specs.Prelude.{ℤ, pos, ◌&&◌, ◌==◌, ◌+ℤ◌, ◌*ℤ◌, neg_ℤ, ◌≤ℤ◌, nat_abs}
-use Rattle.std.specs.Bool.{MatchBool}
 use Rattle.std.specs.Int.{IsGcd}
 use Rattle.std.specs.List.{list_any}
 use Rattle.std.proofs.lemmas.Int.{ints}
 use Rattle.std.proofs.lemmas.Nat.Gcd.{same_from_IsGcd}
 use Rattle.sum_algebra.specs.Ring.{var, minus, nought, ring}
-use Rattle.sum_algebra.specs.Ring as E
-use Rattle.sum_algebra.specs.RingUse.{ints_ring, ◌:+◌, ◌:*◌, ◌:-◌, X, Y, Z, W}
+use Rattle.sum_algebra.specs.RingUse.{ints_ring, ◌:+◌, ◌:*◌, X, Y, Z, W}
 use Rattle.scattering.specs.Collections.{In}
-use Rattle.scattering.specs.Series.{Key, Sum, Exp, Term, degree, rest, coef, origin, scale, det, exp_add, exp_eq, key_eq, key_mul, z}
+use Rattle.scattering.specs.Series.{Key, Sum, Exp, Term, degree, rest, coef, origin, scale, det, exp_add, exp_eq, key_eq, key_mul}
 use Rattle.scattering.specs.Plane.{Point, IsPoint, IsDirection, point_eq}
 use Rattle.scattering.specs.Wall.{Wall, IsWall, is_live}
-use Rattle.scattering.specs.LocalProduct.{image, axis_x, axis_y}
+use Rattle.scattering.specs.LocalProduct.{axis_x, axis_y}
 use Rattle.scattering.specs.Stops.{Lie, ratio_at, IsCorrection, IsAdded, ray_coef}
 use Rattle.scattering.proofs.Keys.{key_eq-same}
 use Rattle.completion_theory.proofs.Concrete.{keys}
 use Rattle.completion_theory.proofs.Live.{scale-not_origin, direction-not_origin}
-use Rattle.completion_theory.proofs.Step.{ratio-den, ratio-none, det-scale}
+use Rattle.completion_theory.proofs.Step.{ratio-none, det-scale}
 use Rattle.completion_theory.proofs.Unique.{by_axes}
 use Rattle.completion_theory.proofs.Whole.{Multiple, as_multiple, same-direction, cancel, positive-not, zero-factor}
 use Rattle.two_lines.specs.ClosedForm.{origin_point, IsRayOf}

@@ -1,17 +1,19 @@
 -- The completion of two lines through the origin up to order 2, in closed form, and the law that it is one.
 --
--- At order 2 the diagram gains a ray where both lines have a term of degree 1 and aren't parallel: the
--- commutator of two wall crossings modulo degree 3. The formula follows from Gross, Pandharipande and
--- Siebert, "The tropical vertex", Lemma 1.9, for two elements whose product of second order is cut off.
+-- Up to order 2 one ray is added, where both lines have a term of degree 1 and aren't parallel: it makes
+-- up for the commutator of the two wall crossings modulo degree 3. The formula is that of Gross,
+-- Pandharipande and Siebert, "The tropical vertex", Lemma 1.9, where squares of the terms are 0; here
+-- they have degree 2, and don't matter.
 --     IsLineThroughOrigin w          w is a line, given by the origin
 --     HasNoRay order u v             nothing is added up to this order
 --     IsRayOf u v s t r              r is the ray that the terms s of u and t of v make
 --     IsClosedForm order u v rays    rays are what is added up to this order, 2 at most
 --     ClosedFormCompletes            the closed form is the completion
-use Rattle.std.specs.Prelude.{◌≡◌, ◌≢◌, ℕ, ◌≤◌, ◌⊎◌, nat_abs, List, [], ◌∷◌, ℤ, pos, ◌*ℤ◌, IsTrue, IsFalse}
+--     ClosedFormExists               there is one where each function has at most one term beside 1
+use Rattle.std.specs.Prelude.{◌≡◌, ◌≢◌, ℕ, ◌≤◌, ◌⊎◌, nat_abs, List, [], ◌∷◌, pos, ◌*ℤ◌, length, IsTrue, IsFalse}
 use Rattle.std.specs.Int.{IsGcd}
 use Rattle.scattering.specs.Collections.{Every, in_order}
-use Rattle.scattering.specs.Series.{Exp, Term, exp_add, scale, det, unit, key_mul, key_before, degree, rest}
+use Rattle.scattering.specs.Series.{Term, exp_add, scale, det, unit, key_mul, key_before, degree, rest}
 use Rattle.scattering.specs.Plane.{Point}
 use Rattle.scattering.specs.Wall.{Line, Outgoing, Wall, IsWall, are_parallel, cut_walls}
 use Rattle.scattering.specs.Completion.{IsCompletion}
@@ -64,3 +66,7 @@ IsClosedForm order u v rays = (HasNoRay order u v × (rays ≡ [])) ⊎ HasRay o
 abbrev pub ClosedFormCompletes : Type 0
 ClosedFormCompletes = (order m : ℕ) (u v : Wall) (rays : List Wall) → order ≤ 2 → order ≤ m → IsWall m u → IsWall m v → IsLineThroughOrigin u → IsLineThroughOrigin v
     → IsClosedForm order u v rays → IsCompletion (u ∷ v ∷ []) order (record { initial = cut_walls order (u ∷ v ∷ []); rays = rays })
+
+abbrev pub ClosedFormExists : Type 0
+ClosedFormExists = (order m : ℕ) (u v : Wall) → order ≤ 2 → IsWall m u → IsWall m v → length (rest u.function) ≤ 1 → length (rest v.function) ≤ 1
+    → (rays : List Wall) × IsClosedForm order u v rays
