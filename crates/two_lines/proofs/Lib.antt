@@ -1,0 +1,9 @@
+mod Commutator
+mod HalfWalls
+mod OriginImage
+mod ActivePoints
+mod Ray
+mod SecondOrder
+mod Completes
+mod Existence
+mod Examples
