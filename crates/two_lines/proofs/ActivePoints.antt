@@ -1,22 +1,20 @@
 -- Points that are active for two lines through the origin: none, or the origin alone.
 use Rattle.std.proofs.Common.{◌≡◌, ◌≢◌, ℕ, refl, subst, sym, ◌∙◌, ap, List, [], ◌∷◌, Bool, true, false, not, ◌<◌, ◌+◌, arith, inl, inr, ◌⊎◌}
-use Rattle.std.specs.Prelude.{ℤ, pos, ◌&&◌, ◌||◌, ◌-ℤ◌, ◌*ℤ◌, ◌≤ℤ◌, nat_abs, nat_le, filter}
-use Rattle.std.specs.Int.{◌∣◌}
+use Rattle.std.specs.Prelude.{ℤ, pos, ◌&&◌, ◌||◌, nat_le, filter}
 use Rattle.std.specs.List.{list_any}
 use Rattle.std.proofs.lemmas.Int.{ints}
-use Rattle.std.proofs.lemmas.Nat.Gcd.{dvd_refl, dvd_of_mod-eq-zero}
-use Rattle.sum_algebra.proofs.Ring.{var, minus, nought, ring}
-use Rattle.sum_algebra.proofs.Ring as E
-use Rattle.sum_algebra.proofs.IntegerRing.{ints_ring, ◌:*◌, ◌:-◌, X, Y, Z, W}
+use Rattle.sum_algebra.proofs.Ring.{nought, ring}
+use Rattle.sum_algebra.proofs.IntegerRing.{ints_ring, ◌:*◌, ◌:-◌, X, Y}
 use Rattle.scattering.specs.Collections.{In, Every}
-use Rattle.scattering.specs.Series.{Sum, Exp, Term, degree, rest, cut, det, int_eq, exp_eq, key_eq, unit}
+use Rattle.scattering.specs.Series.{Sum, Exp, Term, degree, rest, cut, det, int_eq, key_eq, unit}
 use Rattle.scattering.specs.Plane.{Point, IsPoint, point_eq, difference}
 use Rattle.scattering.specs.Wall.{Wall, is_on, are_parallel, has_term_to, crosses_to}
 use Rattle.scattering.specs.ActivePoint.{is_incoming, is_active, walls_on}
-use Rattle.scattering.proofs.Lists.{filter-keeps, any-false, filter-from, and-left}
-use Rattle.plane_theory.proofs.Directions.{zero-factor}
+use Rattle.scattering.proofs.Lists.{filter-keeps, any-false, any-true, any-some, filter-from, and-left}
+use Rattle.scattering.proofs.Keys.{int_eq-same}
+use Rattle.plane_theory.proofs.Meetings.{meets, one-meeting}
 use Rattle.two_lines.specs.ClosedForm.{origin_point}
-use Rattle.two_lines.proofs.HalfWalls.{line, line-on}
+use Rattle.two_lines.proofs.OriginLines.{line, line-on, origin-is_point}
 
 and_false : (b : Bool) → (b && false) ≡ false
 and_false true = refl
@@ -25,28 +23,6 @@ and_false false = refl
 pub differ : (b : Bool) → b ≡ true → b ≡ false → ⊥
 differ true q r = cc
 differ false q r = cc
-
-pub int_eq-same : (x y : ℤ) → int_eq x y ≡ true → x ≡ y
-int_eq-same x y q = grind (arith, ints)
-
--- ---- tests on lists
-
-any-true : {A : Type 0} (P : A → Bool) (xs : List A) (x : A) → In x xs → P x ≡ true → list_any P xs ≡ true
-any-true P [] x i e = absurd i
-any-true P (y ∷ ys) x (inl q) e = rw (sym (ap P q) ∙ e) refl
-any-true P (y ∷ ys) x (inr i) e = rw (any-true P ys x i e) (or_true (P y))
-  where
-    or_true : (b : Bool) → (b || true) ≡ true
-    or_true true = refl
-    or_true false = refl
-
-any-find : {A : Type 0} (P : A → Bool) (xs : List A) → list_any P xs ≡ true → (x : A) × In x xs × (P x ≡ true)
-any-find P [] e = absurd (cc)
-any-find P (y ∷ ys) e = go (P y) refl (any-find P ys)
-  where
-    go : (b : Bool) → P y ≡ b → (list_any P ys ≡ true → (x : _) × In x ys × (P x ≡ true)) → (x : _) × In x (y ∷ ys) × (P x ≡ true)
-    go true q f = (y, inl refl, q)
-    go false q f = let r = f (rw q at e) in (r.0, inr r.1, r.2)
 
 filter-swap : {A : Type 0} (a b : A → Bool) (xs : List A) → filter a (filter b xs) ≡ filter b (filter a xs)
 filter-swap a b [] = refl
@@ -97,9 +73,6 @@ dead-right n u v e =
 pub int-refl : (x : ℤ) → int_eq x x ≡ true
 int-refl x = grind (arith, ints)
 
-pub exp-itself : (d : Exp) → exp_eq d d ≡ true
-exp-itself d = rw (int-refl d.a, int-refl d.b) refl
-
 self-parallel : (d : Exp) (f : Sum) → are_parallel (line d f) (line d f) ≡ true
 self-parallel d f = ap (λ (n : ℤ). int_eq n (pos 0)) (ring ints_ring (d.a ∷ d.b ∷ []) (X :* Y :- Y :* X) nought refl)
 
@@ -135,38 +108,17 @@ module _ (d e : Exp) (f g : Sum) where
 
   -- lines that aren't parallel meet at the origin alone
   module _ (cross : det d e ≢ pos 0) where
-    meet : (x y : ℤ) → d.a *ℤ y -ℤ d.b *ℤ x ≡ pos 0 → e.a *ℤ y -ℤ e.b *ℤ x ≡ pos 0 → (x ≡ pos 0) × (y ≡ pos 0)
-    meet x y h k = (
-      zero-factor (det d e) x cross
-          (ring ints_ring (d.a ∷ d.b ∷ e.a ∷ e.b ∷ x ∷ y ∷ []) ((X :* W :- Y :* Z) :* var 4) (Z :* (X :* var 5 :- Y :* var 4) :- X :* (Z :* var 5 :- W :* var 4)) refl
-          ∙ ap (λ (n : ℤ). e.a *ℤ n -ℤ d.a *ℤ (e.a *ℤ y -ℤ e.b *ℤ x)) h ∙ ap (λ (n : ℤ). e.a *ℤ pos 0 -ℤ d.a *ℤ n) k
-          ∙ ring ints_ring (e.a ∷ d.a ∷ []) (X :* nought :- Y :* nought) nought refl),
-      zero-factor (det d e) y cross
-          (ring ints_ring (d.a ∷ d.b ∷ e.a ∷ e.b ∷ x ∷ y ∷ []) ((X :* W :- Y :* Z) :* var 5) (W :* (X :* var 5 :- Y :* var 4) :- Y :* (Z :* var 5 :- W :* var 4)) refl
-          ∙ ap (λ (n : ℤ). e.b *ℤ n -ℤ d.b *ℤ (e.a *ℤ y -ℤ e.b *ℤ x)) h ∙ ap (λ (n : ℤ). e.b *ℤ pos 0 -ℤ d.b *ℤ n) k
-          ∙ ring ints_ring (e.b ∷ d.b ∷ []) (X :* nought :- Y :* nought) nought refl),
-    )
+    on-det : (d : Exp) (f : Sum) (p : Point) → is_on (line d f) p ≡ true → det d (difference origin_point p) ≡ pos 0
+    on-det d f p h = int_eq-same (det d (difference origin_point p)) (pos 0) (and-left _ _ h)
 
-    on-det : (d : Exp) (f : Sum) (p : Point) → is_on (line d f) p ≡ true → d.a *ℤ p.y -ℤ d.b *ℤ p.x ≡ pos 0
-    on-det d f p h =
-        ring ints_ring (d.a ∷ d.b ∷ p.x ∷ p.y ∷ p.w ∷ []) (X :* W :- Y :* Z) (X :* (W :* E.unit :- nought :* var 4) :- Y :* (Z :* E.unit :- nought :* var 4)) refl
-        ∙ int_eq-same (det d (difference origin_point p)) (pos 0) (and-left _ _ h)
-
-    -- a point in lowest terms whose first numbers are 0
-    at-origin : (p : Point) → IsPoint p → p.x ≡ pos 0 → p.y ≡ pos 0 → p ≡ origin_point
-    at-origin p ip x y =
-        let one : nat_abs p.w ≡ 1 = ip.lowest (nat_abs p.w) (subst (λ (n : ℤ). nat_abs p.w ∣ nat_abs n) (sym x) divides) (subst (λ (n : ℤ). nat_abs p.w ∣ nat_abs n) (sym y) divides) (dvd_refl (nat_abs p.w)) in
-        let w : p.w ≡ pos 1 = whole p.w ip.below one in
-        λ i. record { x = x i; y = y i; w = w i }
-      where
-        divides : nat_abs p.w ∣ 0
-        divides = dvd_of_mod-eq-zero (nat_abs p.w) (omega arith)
-
-        whole : (n : ℤ) → pos 1 ≤ℤ n → nat_abs n ≡ 1 → n ≡ pos 1
-        whole n le q = grind (arith, ints)
+    on-both : (p : Point) → IsPoint p → is_on (line d f) p ≡ true → is_on (line e g) p ≡ true → p ≡ origin_point
+    on-both p ip i j =
+        one-meeting origin_point d origin_point e p origin_point origin-is_point origin-is_point cross ip origin-is_point
+        (meets origin_point d origin_point e p (on-det d f p i) (on-det e g p j))
+        (meets origin_point d origin_point e origin_point (on-det d f origin_point (line-on d f)) (on-det e g origin_point (line-on e g)))
 
     pub active-only : (n : ℕ) (p : Point) → IsPoint p → is_active n (line d f ∷ line e g ∷ []) p ≡ true → p ≡ origin_point
-    active-only n p ip h = go (any-find (λ u. list_any (crosses_to n u) (walls_on both p)) (walls_on both p) crossing)
+    active-only n p ip h = go (any-some (λ u. list_any (crosses_to n u) (walls_on both p)) (walls_on both p) crossing)
       where
         or_false : (a b : Bool) → b ≡ false → (a || b) ≡ true → a ≡ true
         or_false true b q r = refl
@@ -177,20 +129,14 @@ module _ (d e : Exp) (f g : Sum) where
 
         by_walls : (u v : Wall) → crosses_to n u v ≡ true → is_on u p ≡ true → is_on v p ≡ true → (u ≡ line d f) ⊎ (u ≡ line e g) → (v ≡ line d f) ⊎ (v ≡ line e g) → p ≡ origin_point
         by_walls u v c i j (inl a) (inl b) = absurd (differ _ c (ap (λ (u : Wall). crosses_to n u v) a ∙ ap (crosses_to n (line d f)) b ∙ parallel-quiet n (line d f) (line d f) (self-parallel d f)))
-        by_walls u v c i j (inl a) (inr b) = here (subst (λ (w : Wall). is_on w p ≡ true) a i) (subst (λ (w : Wall). is_on w p ≡ true) b j)
-          where
-            here : is_on (line d f) p ≡ true → is_on (line e g) p ≡ true → p ≡ origin_point
-            here x y = let r = meet p.x p.y (on-det d f p x) (on-det e g p y) in at-origin p ip r.0 r.1
-        by_walls u v c i j (inr a) (inl b) = here (subst (λ (w : Wall). is_on w p ≡ true) b j) (subst (λ (w : Wall). is_on w p ≡ true) a i)
-          where
-            here : is_on (line d f) p ≡ true → is_on (line e g) p ≡ true → p ≡ origin_point
-            here x y = let r = meet p.x p.y (on-det d f p x) (on-det e g p y) in at-origin p ip r.0 r.1
+        by_walls u v c i j (inl a) (inr b) = on-both p ip (subst (λ (w : Wall). is_on w p ≡ true) a i) (subst (λ (w : Wall). is_on w p ≡ true) b j)
+        by_walls u v c i j (inr a) (inl b) = on-both p ip (subst (λ (w : Wall). is_on w p ≡ true) b j) (subst (λ (w : Wall). is_on w p ≡ true) a i)
         by_walls u v c i j (inr a) (inr b) = absurd (differ _ c (ap (λ (u : Wall). crosses_to n u v) a ∙ ap (crosses_to n (line e g)) b ∙ parallel-quiet n (line e g) (line e g) (self-parallel e g)))
 
         go : (u : Wall) × In u (walls_on both p) × (list_any (crosses_to n u) (walls_on both p) ≡ true) → p ≡ origin_point
         go r =
             let i = filter-from (λ w. is_on w p) both r.0 r.1 in
-            let q = any-find (crosses_to n r.0) (walls_on both p) r.2 in
+            let q = any-some (crosses_to n r.0) (walls_on both p) r.2 in
             let j = filter-from (λ w. is_on w p) both q.0 q.1 in
             by_walls r.0 q.0 q.2 i.1 j.1 (cases r.0 i.0) (cases q.0 j.0)
 

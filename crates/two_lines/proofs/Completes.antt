@@ -7,6 +7,7 @@ use Rattle.scattering.specs.Collections.{In, Every}
 use Rattle.scattering.specs.Series.{Sum, Exp, Term, degree, rest, cut, det, int_eq, IsMultiple}
 use Rattle.scattering.specs.Plane.{Point}
 use Rattle.scattering.specs.Wall.{WallKind, Line, Incoming, Outgoing, Wall, Diagram, IsWall, crosses_to, cut_walls, IsInitial}
+use Rattle.scattering.proofs.Keys.{int_eq-same}
 use Rattle.scattering.specs.Completion.{IsCompletion}
 use Rattle.scattering.specs.Correction.{Lie, IsCorrection, IsWhole}
 use Rattle.scattering.specs.ActivePoint.{is_active}
@@ -17,11 +18,10 @@ use Rattle.crossing_theory.proofs.LiveWalls.{direction-not_origin}
 use Rattle.correction_theory.proofs.ReducedRays.{rest-nonzero}
 use Rattle.completion_theory.proofs.OrderZero.{starts}
 use Rattle.completion_theory.proofs.NextOrder.{step_completes}
-use Rattle.two_lines.specs.ClosedForm.{origin_point, IsLineThroughOrigin, HasNoLinearTerm, HasNoRay, IsRayOf, IsClosedForm, ClosedFormCompletes}
-use Rattle.two_lines.proofs.HalfWalls.{line}
+use Rattle.two_lines.specs.ClosedForm.{origin_point, HasNoLinearTerm, HasNoRay, IsRayOf, IsClosedForm, ClosedFormCompletes}
+use Rattle.two_lines.proofs.OriginLines.{line, as_line, origin-is_point}
 use Rattle.two_lines.proofs.OriginImage.{Linear}
-use Rattle.two_lines.proofs.ActivePoints.{both, differ, int_eq-same, int-refl, rest-cut, cut-high, cut-linear, parallel-quiet, dead-left, dead-right, passive, active-only, active-at}
-use Rattle.two_lines.proofs.Ray.{origin-is_point}
+use Rattle.two_lines.proofs.ActivePoints.{both, differ, int-refl, rest-cut, cut-high, cut-linear, parallel-quiet, dead-left, dead-right, passive, active-only, active-at}
 use Rattle.two_lines.proofs.SecondOrder.{ray-wall, ray-live, ray-added}
 
 line-initial : Line ≢ Outgoing
@@ -154,9 +154,6 @@ module _ (d e : Exp) (f g : Sum) (m : ℕ) (hf : IsWall m (line d f)) (hg : IsWa
   of_lines (suc (suc (suc n))) rays l le c = absurd (omega (arith, l))
 
 -- ---- any two lines through the origin
-
-as_line : (w : Wall) → IsLineThroughOrigin w → w ≡ line w.dir w.function
-as_line w h = λ i. record { kind = h.line i; at = h.at i; dir = w.dir; function = w.function }
 
 pub closed_form_completes : ClosedFormCompletes
 closed_form_completes order m u v rays l le hu hv pu pv =

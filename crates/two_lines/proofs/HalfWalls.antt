@@ -8,14 +8,11 @@ use Rattle.sum_algebra.proofs.IntegerRing.{ints_ring, ◌:*◌, ◌:-◌, X, Y, 
 use Rattle.scattering.specs.Collections.{put, in_order}
 use Rattle.scattering.specs.Series.{Sum, Exp, origin, scale, det, int_eq}
 use Rattle.scattering.specs.Plane.{is_upper, turns_before}
-use Rattle.scattering.specs.Wall.{Line, Wall, is_on}
+use Rattle.scattering.specs.Wall.{Wall}
 use Rattle.scattering.specs.LocalProduct.{Half, along, halves, half_walls}
 use Rattle.crossing_theory.proofs.HalfWalls.{half}
 use Rattle.two_lines.specs.ClosedForm.{origin_point}
-
--- a line through the origin
-abbrev pub line : Exp → Sum → Wall
-line d f = record { kind = Line; at = origin_point; dir = d; function = f }
+use Rattle.two_lines.proofs.OriginLines.{line, line-on}
 
 -- ---- a list in order
 
@@ -148,9 +145,6 @@ both-sorted u v a b =
     go false h = early-first by_angle _ _ _ _ _ h
 
 -- ---- at the origin
-
-pub line-on : (d : Exp) (f : Sum) → is_on (line d f) origin_point ≡ true
-line-on d f = ap (λ (n : ℤ). int_eq n (pos 0) && true) (ring ints_ring (d.a ∷ d.b ∷ []) (X :* nought :- Y :* nought) nought refl)
 
 line-halves : (d : Exp) (f : Sum) → halves origin_point (line d f) ≡ half (line d f) (pos 1) ∷ half (line d f) (negsuc 0) ∷ []
 line-halves d f = rw (line-on d f) refl

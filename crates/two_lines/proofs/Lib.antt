@@ -1,3 +1,4 @@
+mod OriginLines
 mod Commutator
 mod HalfWalls
 mod OriginImage

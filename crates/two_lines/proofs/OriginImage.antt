@@ -18,7 +18,8 @@ use Rattle.crossing_theory.proofs.HalfWalls.{Proper, half, sign, as_crossing}
 use Rattle.correction_theory.proofs.RayGains.{less, less-forth, moved-test}
 use Rattle.two_lines.specs.ClosedForm.{origin_point}
 use Rattle.two_lines.proofs.Commutator.{OneAnd, commutator}
-use Rattle.two_lines.proofs.HalfWalls.{line, sign_of, sign-not, Turns, turns}
+use Rattle.two_lines.proofs.HalfWalls.{sign_of, sign-not, Turns, turns}
+use Rattle.two_lines.proofs.OriginLines.{line}
 
 -- the function is 1 and one term, of degree 1
 pub record Linear (w : Wall) (s : Term) : Type 0 where

@@ -3,18 +3,14 @@ use Rattle.std.proofs.Common.{◌≡◌, ◌≢◌, ℕ, refl, subst, sym, ◌�
 use Rattle.std.specs.Prelude.{ℤ, pos, ◌&&◌, ◌||◌, ◌≤ℤ◌, nat_abs, int_lt}
 use Rattle.std.specs.Int.{IsGcd}
 use Rattle.std.proofs.lemmas.Int.{ints}
-use Rattle.std.proofs.lemmas.Nat.Gcd.{same_from_IsGcd, dvd_refl, dvd_antisymm, dvd_of_mod-eq-zero}
+use Rattle.std.proofs.lemmas.Nat.Gcd.{same_from_IsGcd, dvd_refl}
 use Rattle.std.proofs.Math.Nat.{eq-zero_of_zero-dvd}
 use Rattle.scattering.specs.Collections.{Every, in_order}
 use Rattle.scattering.specs.Series.{Key, Sum, Exp, Term, degree, rest, coef, origin, scale, unit, key_eq, key_before, exp_before, int_eq, IsSeries, IsWallFunction, IsMultiple}
-use Rattle.scattering.specs.Plane.{IsPoint, IsDirection}
+use Rattle.scattering.specs.Plane.{IsDirection}
 use Rattle.scattering.proofs.Keys.{key_eq-same}
 use Rattle.scattering.proofs.Lists.{or-left}
 use Rattle.plane_theory.proofs.Directions.{Multiple, as_multiple, cancel, positive-not}
-use Rattle.two_lines.specs.ClosedForm.{origin_point}
-
-pub origin-is_point : IsPoint origin_point
-origin-is_point = record { below = omega (arith, ints); lowest = λ d x y w. dvd_antisymm w (dvd_of_mod-eq-zero 1 (omega arith)) }
 
 -- an exponent with a gcd of at least 1
 pub gcd-not_origin : (m : Exp) (g : ℕ) → 1 ≤ g → IsGcd (nat_abs m.a) (nat_abs m.b) g → m ≢ origin

@@ -13,17 +13,16 @@ use Rattle.scattering.specs.Plane.{Point, IsPoint, IsDirection, point_eq}
 use Rattle.scattering.specs.Wall.{Wall, IsWall, is_live}
 use Rattle.scattering.specs.LocalProduct.{axis_x, axis_y}
 use Rattle.scattering.specs.Correction.{Lie, ratio_at, IsCorrection, IsAdded, ray_coef}
-use Rattle.scattering.proofs.Keys.{key_eq-same}
+use Rattle.scattering.proofs.Keys.{key_eq-same, exp_eq-refl}
 use Rattle.crossing_theory.proofs.Keys.{keys}
 use Rattle.crossing_theory.proofs.LiveWalls.{scale-not_origin, direction-not_origin}
 use Rattle.completion_theory.proofs.NextOrder.{ratio-none}
 use Rattle.plane_theory.proofs.Directions.{det-scale, Multiple, as_multiple, same-direction, cancel, positive-not, zero-factor}
 use Rattle.completion_theory.proofs.UniqueCompletion.{by_axes}
 use Rattle.two_lines.specs.ClosedForm.{origin_point, IsRayOf}
-use Rattle.two_lines.proofs.HalfWalls.{line}
+use Rattle.two_lines.proofs.OriginLines.{line, origin-is_point}
 use Rattle.two_lines.proofs.OriginImage.{Linear, bracket_at, image-coef}
-use Rattle.two_lines.proofs.ActivePoints.{exp-itself}
-use Rattle.two_lines.proofs.Ray.{origin-is_point, gcd-not_origin, positive-pos, divided, Two, two-sorted, two-rest, two-function}
+use Rattle.two_lines.proofs.Ray.{gcd-not_origin, positive-pos, divided, Two, two-sorted, two-rest, two-function}
 
 product-not_zero : (x y : ℤ) → x ≢ pos 0 → y ≢ pos 0 → x *ℤ y ≢ pos 0
 product-not_zero x y nx ny e = ny (zero-factor x y nx e)
@@ -77,7 +76,7 @@ module _ (u v : Wall) (s t : Term) (r : Wall) (h : IsRayOf u v s t r) (linear_s 
       none false = refl
 
       go : (b : Bool) → key_eq (key_mul s.0 t.0) k ≡ b → cond (exp_eq r.dir d) (cond b value (pos 0)) (pos 0) ≡ cond b value (pos 0)
-      go true q = ap (λ (b : Bool). cond b value (pos 0)) (subst (λ (x : Exp). exp_eq r.dir x ≡ true) (same q) (exp-itself r.dir))
+      go true q = ap (λ (b : Bool). cond b value (pos 0)) (subst (λ (x : Exp). exp_eq r.dir x ≡ true) (same q) (exp_eq-refl r.dir))
       go false q = none (exp_eq r.dir d)
 
 -- ---- the correction
