@@ -22,6 +22,7 @@ use Rattle.scattering.specs.Correction.{ray_coef}
 use Rattle.scattering.proofs.Pairing.{coef-append}
 use Rattle.scattering.proofs.Lists.{and-right, Every-implies, Every-append, Every-filter, any-none, filter-keeps, Every-from_In, Every-at, any-false, In-map, In-append, filter-from}
 use Rattle.scattering.proofs.Keys.{point_eq-same}
+use Rattle.correction_theory.proofs.StrictOrder.{ray_coef-own}
 use Rattle.plane_theory.proofs.Directions.{direction-zero}
 use Rattle.crossing_theory.proofs.Keys.{keys, turn}
 use Rattle.crossing_theory.proofs.Translation.{Eq, Eq-refl, Eq-trans, Eq-sym, from_Eq, key_test, coef-is}
@@ -32,7 +33,6 @@ use Rattle.crossing_theory.proofs.OtherFunctions.{refit, image-refit, Fits}
 use Rattle.crossing_theory.proofs.AddedTerms.{gain, pair-extra, start_side, image-grows, Grows}
 use Rattle.crossing_theory.proofs.CutFunctions.{base, tops, above, added, one_le, grows, proper-base}
 use Rattle.correction_theory.proofs.RayGains.{less-forth, ray-gains}
-use Rattle.correction_theory.proofs.StrictOrder.{ray_coef-own}
 use Rattle.correction_theory.proofs.ReducedRays.{live-term, rest-own, rest-nonzero, rest-term}
 
 -- ---- lists

@@ -19,6 +19,7 @@ use Rattle.scattering.specs.Correction.{ray_coef}
 use Rattle.scattering.proofs.Pairing.{coef-append}
 use Rattle.scattering.proofs.Lists.{Every-implies, Every-append, Every-filter, map-append}
 use Rattle.scattering.proofs.Keys.{key_eq-same, key_eq-apart}
+use Rattle.correction_theory.proofs.StrictOrder.{coef-none, dead-coef}
 use Rattle.plane_theory.proofs.Directions.{direction-zero}
 use Rattle.crossing_theory.proofs.Translation.{from_Eq}
 use Rattle.crossing_theory.proofs.HalfWalls.{Proper, proper}
@@ -26,7 +27,6 @@ use Rattle.crossing_theory.proofs.OtherFunctions.{refit}
 use Rattle.crossing_theory.proofs.AddedTerms.{gain, image-grows, Grows}
 use Rattle.crossing_theory.proofs.CutFunctions.{base, tops, added, one_le, grows, proper-base}
 use Rattle.correction_theory.proofs.RayGains.{less-forth, ray-gains}
-use Rattle.correction_theory.proofs.StrictOrder.{coef-none}
 use Rattle.correction_theory.proofs.ReducedRays.{rays-unique}
 use Rattle.completion_theory.proofs.RayStarts.{degree-mul}
 use Rattle.completion_theory.proofs.LowerOrders.{live-swap, lower_orders, directed-cut}
@@ -54,10 +54,6 @@ ray_coef-same F (r ∷ rays) p d k h = rw (h r, ray_coef-same F rays p d k h) re
 
 pub ray_coef-cut : (n : ℕ) (rays : List Wall) (p : Point) (d : Exp) (k : Key) → degree k ≤ n → ray_coef (cut_walls n rays) p d k ≡ ray_coef rays p d k
 ray_coef-cut n rays p d k le = ray_coef-same (λ r. cut n r.function) rays p d k (λ r. coef-rest-cut n r.function k le)
-
-dead-coef : (f : Sum) (k : Key) → list_any (λ (t : Term). true) f ≡ false → coef f k ≡ pos 0
-dead-coef [] k e = refl
-dead-coef (t ∷ f) k e = absurd (cc)
 
 pub ray_coef-live : (rays : List Wall) (p : Point) (d : Exp) (k : Key) → ray_coef (filter is_live rays) p d k ≡ ray_coef rays p d k
 ray_coef-live [] p d k = refl

@@ -22,6 +22,11 @@ CorrectionExists = (given : List Wall) (n m : ℕ) (e : Diagram) (p : Point) →
 abbrev pub CorrectionIsUnique : Type 0
 CorrectionIsUnique = (ws : List Wall) (p : Point) (n : ℕ) (h h' : Lie) → IsCorrection ws p n h → IsCorrection ws p n h' → (k : Key) → ratio_at h k ≡ ratio_at h' k
 
+-- the corrections at all active points, in order
+abbrev pub CorrectionsExist : Type 0
+CorrectionsExist = (given : List Wall) (n m : ℕ) (e : Diagram) → n + 1 ≤ m → Every (IsWall m) given → Every IsInitial given → IsCompletion given n e
+    → (cs : Corrections) × AreCorrections (walls (raised given n e)) (n + 1) cs × Every (λ c. Every IsWhole c.1) cs
+
 -- ---- active points
 
 -- a ray of a completion starts at a point that is active at the next order
@@ -59,6 +64,10 @@ PassivePointsAreConsistent = (given : List Wall) (n m : ℕ) (e : Diagram) (p : 
 abbrev pub NextOrderCompletes : Type 0
 NextOrderCompletes = (given : List Wall) (n m : ℕ) (e e' : Diagram) (cs : Corrections) → n + 1 ≤ m → Every (IsWall m) given → Every IsInitial given → IsCompletion given n e
     → AreCorrections (walls (raised given n e)) (n + 1) cs → IsMerged given e cs (n + 1) e' → IsCompletion given (n + 1) e'
+
+-- so each order has a completion
+abbrev pub CompletionExists : Type 0
+CompletionExists = (given : List Wall) (n m : ℕ) → n ≤ m → Every (IsWall m) given → Every IsInitial given → (e : Diagram) × IsCompletion given n e
 
 -- there is at most one completion
 abbrev pub CompletionIsUnique : Type 0

@@ -4,6 +4,7 @@ use Rattle.std.specs.Prelude.{ℤ, pos, ◌&&◌, ◌||◌, nat_lt, ◌==◌, �
 use Rattle.std.proofs.lemmas.Int.{ints}
 use Rattle.sum_algebra.proofs.Ring.{nought, ring}
 use Rattle.sum_algebra.proofs.IntegerRing.{ints_ring, ◌:+◌, X}
+use Rattle.std.specs.List.{list_any}
 use Rattle.scattering.specs.Collections.{In, Every, EveryPair}
 use Rattle.scattering.specs.Series.{Key, Sum, Exp, Powers, Term, degree, rest, coef, key_eq, exp_eq, int_eq, key_before, exp_before, powers_before, powers_eq}
 use Rattle.scattering.specs.Series as D
@@ -224,3 +225,7 @@ ray_coef-find (r ∷ rays) p d k h = go (matches r p d) refl (ray_coef-find rays
     go : (b : Bool) → matches r p d ≡ b → (ray_coef rays p d k ≢ pos 0 → (s : Wall) × In s rays × (s.at ≡ p) × (s.dir ≡ d)) → (s : Wall) × In s (r ∷ rays) × (s.at ≡ p) × (s.dir ≡ d)
     go true e f = let b = and-both (point_eq r.at p) (exp_eq r.dir d) e in (r, inl refl, point_eq-same r.at p b.0, exp_eq-same r.dir d b.1)
     go false e f = let s = f (λ z. h (rw e (rw z refl))) in (s.0, inr s.1, s.2, s.3)
+
+pub dead-coef : (f : Sum) (k : Key) → list_any (λ (t : Term). true) f ≡ false → coef f k ≡ pos 0
+dead-coef [] k e = refl
+dead-coef (t ∷ f) k e = absurd (cc)

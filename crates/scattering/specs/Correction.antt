@@ -75,3 +75,11 @@ pub record AreCorrections (ws : List Wall) (n : ℕ) (cs : Corrections) : Type 0
   pub each : Every (λ c. IsPoint c.0 × IsTrue (is_active n ws c.0) × IsCorrection ws c.0 n c.1) cs
   pub all : (p : Point) → IsPoint p → IsTrue (is_active n ws p) → In p (map (λ c. c.0) cs)
   pub sorted : EveryPair (λ c d. IsTrue (point_before c.0 d.0)) cs
+
+-- corrections that can be merged at degree n: at points in order, of degree n alone, and whole
+pub record AreMergeable (n : ℕ) (cs : Corrections) : Type 0 where
+  pub points : Every (λ c. IsPoint c.0) cs
+  pub sorted : EveryPair (λ c d. IsTrue (point_before c.0 d.0)) cs
+  pub distinct : Every (λ c. EveryPair (λ t u. t.0 ≢ u.0) c.1) cs
+  pub degrees : Every (λ c. Every (λ t. (degree t.0 ≡ n) × (t.0.exp ≢ origin)) c.1) cs
+  pub whole : Every (λ c. Every IsWhole c.1) cs
