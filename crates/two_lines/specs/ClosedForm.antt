@@ -2,9 +2,9 @@
 --
 -- Up to order 2 one ray is added, where both lines have a term of degree 1 and aren't parallel: it makes
 -- up for the commutator of the two wall crossings modulo degree 3. The formula is that of Gross,
--- Pandharipande and Siebert, "The tropical vertex", Lemma 1.9, where squares of the terms are 0; here
--- they have degree 2, and don't matter.
---     IsLineThroughOrigin w          w is a line, given by the origin
+-- Pandharipande and Siebert, "The tropical vertex", Lemma 1.9. There the squares of the two terms are 0;
+-- modulo degree 3 they drop out of the commutator, so the formula stands without that.
+--     IsLineThroughOrigin w          w is a line whose point is the origin
 --     HasNoRay order u v             nothing is added up to this order
 --     IsRayOf u v s t r              r is the ray that the terms s of u and t of v make
 --     IsClosedForm order u v rays    rays are what is added up to this order, 2 at most
