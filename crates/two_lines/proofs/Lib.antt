@@ -5,6 +5,6 @@ mod OriginImage
 mod ActivePoints
 mod Ray
 mod SecondOrder
-mod Completes
-mod Existence
+pub mod Completes
+pub mod Existence
 mod Examples
