@@ -1,7 +1,6 @@
 -- Bends: their keys are sums of terms of walls, and they change nothing across the wall.
-use Rattle.std.proofs.Common.{◌≡◌, ◌≢◌, ℕ, refl, sym, ap, ◌∙◌, ◌+◌, ◌≤◌, inl, inr, arith, Bool, true, false, List, [], ◌∷◌, ◌++◌, map}
-use Rattle.std.specs.Prelude.{pos, not, ◌&&◌, ◌||◌, nat_le}
-use Rattle.std.specs.List.{list_any}
+use Rattle.std.proofs.Common.{◌≡◌, ◌≢◌, ℕ, refl, sym, ap, ◌∙◌, ◌+◌, ◌≤◌, inl, inr, arith, List, [], ◌∷◌, ◌++◌, map}
+use Rattle.std.specs.Prelude.{pos, not, ◌&&◌, nat_le}
 use Rattle.std.proofs.lemmas.Int.{ints}
 use Rattle.scattering.specs.Collections.{In, Every}
 use Rattle.scattering.specs.Series.{Exp, Key, Term, origin, exp_add, degree, unit, key_eq, coef, cut, absolute, rest, IsMultiple}
@@ -9,7 +8,8 @@ use Rattle.scattering.specs.Plane.{Point}
 use Rattle.scattering.specs.Wall.{Wall, IsWall, is_on, is_live, cut_wall, cut_walls}
 use Rattle.scattering.specs.BrokenLine.{live_on, across, bend_majorant}
 use Rattle.scattering.specs.Tail.{exp_sum, degree_sum, IsWallTerm, IsReachedBy}
-use Rattle.broken_line_theory.proofs.Terms.{IsKept, AllKeys, all-pow, all-product, all-absolute, all-rest, all-coef, Every-append, In-filter, filter-In, Every-In, In-Every}
+use Rattle.scattering.proofs.Lists.{Every-append, filter-keeps, Every-from_In, Every-at, filter-from}
+use Rattle.broken_line_theory.proofs.Terms.{IsKept, AllKeys, all-pow, all-product, all-absolute, all-rest, all-coef}
 
 -- ---- sums of terms of walls
 same-exp : (u v : Exp) → u.a ≡ v.a → u.b ≡ v.b → u ≡ v
@@ -50,7 +50,7 @@ from-kept ws = record {
 }
 
 from-wall : (ws : List Wall) (w : Wall) → In w ws → AllKeys (IsFromTerms ws) (from-kept ws) w.function
-from-wall ws w h = all-rest (IsFromTerms ws) (from-kept ws) w.function (In-Every (λ t. IsFromTerms ws t.0) (rest w.function) (λ t k. (t ∷ [], ((w, h, k), tt), exp-origin t.0.exp, omega arith)))
+from-wall ws w h = all-rest (IsFromTerms ws) (from-kept ws) w.function (Every-from_In (λ t. IsFromTerms ws t.0) (rest w.function) (λ t k. (t ∷ [], ((w, h, k), tt), exp-origin t.0.exp, omega arith)))
 
 -- of each wall of a list
 from-walls : (ws vs : List Wall) → ((v : Wall) → In v vs → In v ws) → Every (AllKeys (IsFromTerms ws) (from-kept ws)) (map (λ w. absolute w.function) vs)
@@ -62,7 +62,7 @@ pub bend-reached : (n : ℕ) (ws : List Wall) (p : Point) (x : Exp) (k : Key) �
 bend-reached n ws p x k h =
     all-coef (IsFromTerms ws) (from-kept ws) (bend_majorant n ws p x) k
     (all-pow (IsFromTerms ws) (from-kept ws) n _ (across (live_on ws p) x)
-    (all-product (IsFromTerms ws) (from-kept ws) n _ (from-walls ws (live_on ws p) (λ v i. (In-filter (λ w. is_live w && is_on w p) v ws i).0)))) h
+    (all-product (IsFromTerms ws) (from-kept ws) n _ (from-walls ws (live_on ws p) (λ v i. (filter-from (λ w. is_live w && is_on w p) ws v i).0)))) h
 
 -- ---- walls whose terms lie along them
 abbrev pub IsTame : Wall → Type 0
@@ -70,25 +70,13 @@ IsTame w = Every (λ t. (1 ≤ degree t.0) × IsMultiple w.dir t.0.exp) (rest w.
 
 cut-tame : (n k : ℕ) (w : Wall) → IsWall k w → IsTame (cut_wall n w)
 cut-tame n k w h =
-    In-Every (λ t. (1 ≤ degree t.0) × IsMultiple w.dir t.0.exp) (rest (cut n w.function))
-    (λ t i. let a = In-filter (λ t. not (key_eq t.0 unit)) t (cut n w.function) i in
-    let b = In-filter (λ t. nat_le (degree t.0) n) t w.function a.0 in
-    Every-In (λ t. (1 ≤ degree t.0) × IsMultiple w.dir t.0.exp) t (rest w.function) h.function.others (filter-In (λ t. not (key_eq t.0 unit)) t w.function b.0 a.1))
+    Every-from_In (λ t. (1 ≤ degree t.0) × IsMultiple w.dir t.0.exp) (rest (cut n w.function))
+    (λ t i. let a = filter-from (λ t. not (key_eq t.0 unit)) (cut n w.function) t i in
+    let b = filter-from (λ t. nat_le (degree t.0) n) w.function t a.0 in
+    Every-at (λ t. (1 ≤ degree t.0) × IsMultiple w.dir t.0.exp) (rest w.function) t h.function.others (filter-keeps (λ t. not (key_eq t.0 unit)) w.function t b.0 a.1))
 
 pub cut-walls-tame : (n k : ℕ) (ws : List Wall) → Every (IsWall k) ws → Every IsTame (cut_walls n ws)
 cut-walls-tame n k [] h = tt
 cut-walls-tame n k (w ∷ ws) h = (cut-tame n k w h.0, cut-walls-tame n k ws h.1)
 
 -- ---- tests of lists
-pub any-false : {A : Type 0} (f : A → Bool) (xs : List A) (x : A) → list_any f xs ≡ false → In x xs → f x ≡ false
-any-false f [] x h i = absurd i
-any-false f (y ∷ xs) x h (inl e) = rw e (or-left (f y) (list_any f xs) h)
-  where
-    or-left : (a b : Bool) → (a || b) ≡ false → a ≡ false
-    or-left true b h = cc
-    or-left false b h = refl
-any-false f (y ∷ xs) x h (inr i) = any-false f xs x (or-right (f y) (list_any f xs) h) i
-  where
-    or-right : (a b : Bool) → (a || b) ≡ false → b ≡ false
-    or-right true b h = cc
-    or-right false b h = h

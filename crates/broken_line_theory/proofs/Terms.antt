@@ -1,57 +1,11 @@
 -- What holds of all terms of a product of wall functions.
-use Rattle.std.proofs.Common.{◌≡◌, ◌≢◌, ℕ, zero, suc, refl, ap, ◌∙◌, inl, inr, Bool, true, false, List, [], ◌∷◌, ◌++◌, map}
-use Rattle.std.specs.Prelude.{pos, filter}
-use Rattle.scattering.proofs.Keys.{key_eq-same}
-use Rattle.scattering.specs.Collections.{In, Every}
+use Rattle.std.proofs.Common.{◌≡◌, ◌≢◌, ℕ, zero, suc, refl, Bool, true, false, List, [], ◌∷◌, map}
+use Rattle.std.specs.Prelude.{pos}
+use Rattle.scattering.specs.Collections.{Every}
 use Rattle.scattering.specs.Series.{Key, Term, Sum, unit, key_eq, key_mul, coef, one, cut, term_mul, mul, pow, absolute, rest}
 use Rattle.scattering.specs.BrokenLine.{product}
-
--- ---- lists
-pub Every-append : {A : Type 0} (P : A → Type 0) (xs ys : List A) → Every P xs → Every P ys → Every P (xs ++ ys)
-Every-append P [] ys h k = k
-Every-append P (x ∷ xs) ys h k = (h.0, Every-append P xs ys h.1 k)
-
-pub Every-filter : {A : Type 0} (P : A → Type 0) (f : A → Bool) (xs : List A) → Every P xs → Every P (filter f xs)
-Every-filter P f [] h = tt
-Every-filter P f (x ∷ xs) h = go (f x) refl (Every-filter P f xs h.1)
-  where
-    go : (b : Bool) → f x ≡ b → Every P (filter f xs) → Every P (filter f (x ∷ xs))
-    go true e r = rw e (h.0, r)
-    go false e r = rw e r
-
-pub In-filter : {A : Type 0} (f : A → Bool) (x : A) (xs : List A) → In x (filter f xs) → In x xs × (f x ≡ true)
-In-filter f x [] h = absurd h
-In-filter f x (y ∷ xs) h = go (f y) refl h (λ k. In-filter f x xs k)
-  where
-    more : f y ≡ true → In x (y ∷ filter f xs) → (In x (filter f xs) → In x xs × (f x ≡ true)) → In x (y ∷ xs) × (f x ≡ true)
-    more e (inl s) r = (inl s, ap f s ∙ e)
-    more e (inr s) r = let k = r s in (inr k.0, k.1)
-
-    go : (b : Bool) → f y ≡ b → In x (filter f (y ∷ xs)) → (In x (filter f xs) → In x xs × (f x ≡ true)) → In x (y ∷ xs) × (f x ≡ true)
-    go true e k r = more e (rw e at k) r
-    go false e k r = let s = r (rw e at k) in (inr s.0, s.1)
-
-pub filter-In : {A : Type 0} (f : A → Bool) (x : A) (xs : List A) → In x xs → f x ≡ true → In x (filter f xs)
-filter-In f x [] h k = h
-filter-In f x (y ∷ xs) (inl e) k = rw (← e) (rw k (inl refl))
-filter-In f x (y ∷ xs) (inr h) k = go (f y) refl (filter-In f x xs h k)
-  where
-    go : (b : Bool) → f y ≡ b → In x (filter f xs) → In x (filter f (y ∷ xs))
-    go true e r = rw e (inr r)
-    go false e r = rw e r
-
-pub Every-In : {A : Type 0} (P : A → Type 0) (x : A) (xs : List A) → Every P xs → In x xs → P x
-Every-In P x [] h k = absurd k
-Every-In P x (y ∷ xs) h (inl e) = rw e h.0
-Every-In P x (y ∷ xs) h (inr k) = Every-In P x xs h.1 k
-
-pub In-Every : {A : Type 0} (P : A → Type 0) (xs : List A) → ((x : A) → In x xs → P x) → Every P xs
-In-Every P [] h = tt
-In-Every P (x ∷ xs) h = (h x (inl refl), In-Every P xs (λ y k. h y (inr k)))
-
-pub Every-same : {A : Type 0} (P Q : A → Type 0) (xs : List A) → ((x : A) → P x → Q x) → Every P xs → Every Q xs
-Every-same P Q [] f h = tt
-Every-same P Q (x ∷ xs) f h = (f x h.0, Every-same P Q xs f h.1)
+use Rattle.scattering.proofs.Lists.{Every-append, Every-filter}
+use Rattle.scattering.proofs.Keys.{key_eq-same}
 
 -- ---- a fact of keys that 1 has and products keep
 pub record IsKept (P : Key → Type 0) : Type 0 where

@@ -6,7 +6,7 @@ use Rattle.scattering.specs.Series.{Exp, Key, Sum, Term, coef, degree, no_powers
 use Rattle.scattering.specs.Plane.{Point}
 use Rattle.scattering.specs.Wall.{WallKind, Line, Outgoing, Incoming, Wall, walls}
 use Rattle.scattering.specs.LocalProduct.{image, axis_x, axis_y}
-use Rattle.scattering.specs.Stops.{is_active, is_special}
+use Rattle.scattering.specs.ActivePoint.{is_active, is_special}
 use Rattle.scattering.specs.BrokenLine.{value}
 use Rattle.scattering.specs.Tail.{tail_weight}
 use Rattle.scattering.proofs.Rows.{exp, key, at0, line_x, e1, e2}

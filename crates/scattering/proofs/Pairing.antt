@@ -4,8 +4,8 @@ use Rattle.std.specs.Prelude.{ℤ, pos, ◌+ℤ◌, ◌*ℤ◌, neg_ℤ, filter}
 use Rattle.std.proofs.lemmas.Int.{ints}
 use Rattle.scattering.specs.Series.{Key, Sum, key_eq, coef, minus, SameTo, degree}
 use native.Mathlib.Decide.{dec_le}
-use Rattle.scattering.proofs.Keys.{key_eq-same, key_eq-refl}
 use Rattle.scattering.proofs.Ring.{dif-up, dif-pos, dif-add, dif-neg, dif-mul, dif-same}
+use Rattle.scattering.proofs.Keys.{key_eq-same, key_eq-refl}
 
 -- the sum of c·φ(key) over the terms
 abbrev pub pairing : (Key → ℤ) → Sum → ℤ

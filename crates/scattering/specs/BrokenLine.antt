@@ -3,7 +3,7 @@ use Rattle.std.specs.Prelude.{◌≢◌, ℕ, ◌+◌, ◌≤◌, ◌&&◌, IsFa
 use Rattle.scattering.specs.Series.{Exp, Powers, Key, Term, Sum, origin, exp_add, scale, det, degree, powers_add, no_powers, coef, one, mul, pow, absolute}
 use Rattle.scattering.specs.Plane.{Point, IsPoint, FromOn, Beyond}
 use Rattle.scattering.specs.Wall.{Wall, is_on, is_live, cut_walls}
-use Rattle.scattering.specs.Stops.{is_special}
+use Rattle.scattering.specs.ActivePoint.{is_special}
 
 abbrev pub live_on : List Wall → Point → List Wall
 live_on ws p = filter (λ w. is_live w && is_on w p) ws

@@ -1,5 +1,5 @@
 -- Reduced rays, and the completion of initial walls.
-use Rattle.std.specs.Prelude.{◌≡◌, ℕ, Bool, ◌&&◌, ◌||◌, IsTrue, List}
+use Rattle.std.specs.Prelude.{◌≡◌, ℕ, Bool, ◌&&◌, ◌||◌, IsTrue, List, filter}
 use Rattle.scattering.specs.Collections.{Every, EveryPair}
 use Rattle.scattering.specs.Series.{exp_before}
 use Rattle.scattering.specs.Plane.{Point, IsPoint, point_before, point_eq}
@@ -25,3 +25,7 @@ pub record IsCompletion (given : List Wall) (k : ℕ) (e : Diagram) : Type 0 whe
   pub proper : Every (IsWall k) e.rays
   pub reduced : IsReduced e.rays
   pub consistent : IsConsistent k (walls e)
+
+-- cut to a lower order, without the rays that become 1
+abbrev pub lowered : ℕ → Diagram → Diagram
+lowered n e = record { initial = cut_walls n e.initial; rays = filter is_live (cut_walls n e.rays) }

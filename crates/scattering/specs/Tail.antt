@@ -1,10 +1,10 @@
 -- Reach, and the tails that are traced backwards from a point.
-use Rattle.std.specs.Prelude.{◌≡◌, ◌≢◌, ℕ, ◌+◌, ◌*◌, ◌≤◌, IsFalse, List, [], ◌∷◌}
+use Rattle.std.specs.Prelude.{◌≡◌, ◌≢◌, ℕ, ◌+◌, ◌*◌, ◌≤◌, IsFalse, List, [], ◌∷◌, reverse}
 use Rattle.scattering.specs.Collections.{In, Every}
 use Rattle.scattering.specs.Series.{Exp, Term, origin, exp_add, exp_sub, degree, rest, mass_to}
 use Rattle.scattering.specs.Plane.{Point, IsNear, Beyond}
 use Rattle.scattering.specs.Wall.{Wall, cut_walls}
-use Rattle.scattering.specs.Stops.{is_special}
+use Rattle.scattering.specs.ActivePoint.{is_special}
 use Rattle.scattering.specs.BrokenLine.{Bend, IsBend, bend_majorant}
 
 abbrev pub exp_sum : List Term → Exp
@@ -67,6 +67,14 @@ last_point p (c ∷ cs) = last_point c.at cs
 
 abbrev pub IsComplete : Exp → Tail → Type 0
 IsComplete m t = last t.root t.bends ≡ m
+
+-- a broken line read backwards: its last exponent is the root
+abbrev pub end_exp : Exp → List Bend → Exp
+end_exp x [] = x
+end_exp x (b ∷ bs) = end_exp (exp_add x b.key.exp) bs
+
+abbrev pub backwards : Exp → List Bend → Tail
+backwards m bends = record { root = end_exp m bends; bends = reverse bends }
 
 -- the product over the bends of the coefficients of |F|^n up to the key's degree
 abbrev pub tail_weight : List Wall → ℕ → Exp → List Bend → ℕ

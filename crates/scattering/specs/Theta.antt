@@ -6,7 +6,7 @@ use Rattle.scattering.specs.Collections.{In, Lists, MoreThan, AtMost, IsLeast}
 use Rattle.scattering.specs.Series.{Exp, Sum, det, origin, exp_eq, one, Same}
 use Rattle.scattering.specs.Plane.{Point, IsPoint, IsNear, Beyond, point_before}
 use Rattle.scattering.specs.Wall.{Wall, cut_walls}
-use Rattle.scattering.specs.Stops.{is_special}
+use Rattle.scattering.specs.ActivePoint.{is_special}
 use Rattle.scattering.specs.BrokenLine.{Bend, IsBrokenLine, value, live_on}
 use Rattle.scattering.specs.Tail.{ReachTo, Tail, IsTail, last, last_point, tail_weight}
 

@@ -1,5 +1,5 @@
 -- Walls: lines, incoming and outgoing rays, each with a wall function.
-use Rattle.std.specs.Prelude.{ℕ, ◌+◌, nat_le, Bool, true, false, not, ◌&&◌, IsTrue, List, ◌++◌, map, ℤ, pos, int_le}
+use Rattle.std.specs.Prelude.{ℕ, ◌+◌, nat_le, Bool, true, false, not, ◌&&◌, IsTrue, List, ◌++◌, map, ℤ, pos, int_le, ◌≢◌}
 use Rattle.std.specs.List.{list_any}
 use Rattle.scattering.specs.Series.{Exp, int_eq, det, dot, Sum, cut, rest, degree, IsWallFunction}
 use Rattle.scattering.specs.Plane.{Point, IsPoint, IsDirection, point_eq, difference, IsAt}
@@ -62,7 +62,11 @@ pub record IsWall (n : ℕ) (w : Wall) : Type 0 where
   pub direction : IsDirection w.dir
   pub function : IsWallFunction n w.dir w.function
 
--- initial walls, which are lines and incoming rays, and outgoing rays
+-- an initial wall is a line or an incoming ray
+abbrev pub IsInitial : Wall → Type 0
+IsInitial w = w.kind ≢ Outgoing
+
+-- initial walls, and outgoing rays
 pub record Diagram : Type 0 where
   pub initial : List Wall
   pub rays : List Wall

@@ -1,0 +1,6 @@
+use Rattle.broken_line_theory.proofs.theta_is_determined.Goals as goal
+use Rattle.broken_line_theory.proofs.ProductSteps.{theta-exists}
+use Rattle.broken_line_theory.proofs.LeadingMonomial.{theta-unique}
+
+pub returns : goal.returns
+returns c = record { exists = theta-exists; unique = theta-unique }

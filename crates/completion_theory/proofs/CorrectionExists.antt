@@ -1,0 +1,60 @@
+-- The correction at a point exists, and is whole.
+use Rattle.std.proofs.Common.{◌≡◌, ℕ, suc, subst, sym, List, ◌++◌, map, arith, add-one}
+use Rattle.std.specs.Prelude.{◌*ℤ◌}
+use Rattle.scattering.specs.Collections.{Every}
+use Rattle.scattering.specs.Series.{Exp, det, z, key_mul, monomial, coef, SameTo}
+use Rattle.scattering.specs.Plane.{Point}
+use Rattle.scattering.specs.Wall.{Wall, IsWall, cut_walls}
+use Rattle.scattering.specs.LocalProduct.{image, carry, half_walls, axis_x, axis_y, IsConsistentAt}
+use Rattle.scattering.specs.Correction.{Lie, ratio_at, IsCorrection, IsWhole}
+use Rattle.scattering.proofs.Lists.{Every-implies, Every-append, Every-mapped}
+use Rattle.crossing_theory.proofs.Translation.{Eq, Eq-trans, to_Eq}
+use Rattle.crossing_theory.proofs.HalfWalls.{Proper, proper}
+use Rattle.crossing_theory.proofs.OtherFunctions.{of_halves}
+use Rattle.crossing_theory.proofs.LocalProductLaws.{auto-carry}
+use Rattle.correction_theory.proofs.LogarithmicDerivative.{flux}
+use Rattle.correction_theory.proofs.Correction.{built, right-everywhere}
+use Rattle.completion_theory.proofs.RaisedDiagram.{lift_wall, lifted, cut-lifted, Given, given-lift, givens, lifted-proper}
+use Rattle.completion_theory.proofs.LowerOrders.{image-cut}
+use Rattle.completion_theory.proofs.UniqueCompletion.{on_axis}
+use Rattle.completion_theory.specs.Laws.{CorrectionExists}
+
+-- where both images are the identity below degree n + 1
+pub correction : (n : ℕ) (ws : List Wall) (p : Point) → Every Proper ws → Eq n (image ws p (suc n) axis_x) (monomial (z axis_x)) → Eq n (image ws p (suc n) axis_y) (monomial (z axis_y)) → (h : Lie) × IsCorrection ws p (suc n) h × Every IsWhole h
+correction n ws p pr ix iy =
+    let hs = half_walls ws p in
+    let q : Every (λ h. Proper h.wall) hs = of_halves Proper p ws pr in
+    let b = built n (carry (suc n) hs) (auto-carry (suc n) hs q) (flux (suc n) hs q) ix iy in (
+      b.h,
+      record {
+        ratios = b.ratios;
+        nonzero = b.nonzero;
+        distinct = b.distinct;
+        degrees = b.degrees;
+        bracket = λ m k i deg.
+            let r = right-everywhere n (carry (suc n) hs) (auto-carry (suc n) hs q) (flux (suc n) hs q) ix iy k deg in
+            on_axis (λ m. coef (image ws p (suc n) m) (key_mul k (z m)) *ℤ (ratio_at b.h k).den ≡ (ratio_at b.h k).num *ℤ det k.exp m) r.0 r.1 m i;
+      },
+      b.whole,
+    )
+
+at-next : (given rays : List Wall) (n : ℕ) (p : Point) → Every Given given → Every (IsWall n) rays → IsConsistentAt (cut_walls n given ++ rays) n p
+    → (h : Lie) × IsCorrection (lifted n (suc n) given rays) p (suc n) h × Every IsWhole h
+at-next given rays n p gs hr c = correction n ws p pr (low axis_x c.x) (low axis_y c.y)
+  where
+    ws : List Wall
+    ws = lifted n (suc n) given rays
+
+    pr : Every Proper (lifted n (suc n) given rays)
+    pr = lifted-proper n (suc n) given rays gs (Every-implies _ Proper rays (λ r w. proper n r w) hr)
+
+    low : (m : Exp) → SameTo n (image (cut_walls n given ++ rays) p n m) (monomial (z m)) → Eq n (image (lifted n (suc n) given rays) p (suc n) m) (monomial (z m))
+    low m h =
+        Eq-trans n _ (image (cut_walls n given ++ rays) p n m) _
+        (subst (λ us. Eq n (image (lifted n (suc n) given rays) p (suc n) m) (image us p n m)) (cut-lifted n (suc n) (omega arith) given rays hr) (image-cut n (suc n) (omega arith) (lifted n (suc n) given rays) p m pr))
+        (to_Eq n _ _ h)
+
+pub correction_exists : CorrectionExists
+correction_exists given n m e p le hg hk c ip =
+    subst (λ j. (h : Lie) × IsCorrection (lifted n j given e.rays) p j h × Every IsWhole h) (sym (add-one n))
+    (at-next given e.rays n p (givens m given hg hk) c.proper (subst (λ xs. IsConsistentAt (xs ++ e.rays) n p) c.initial (c.consistent p ip)))

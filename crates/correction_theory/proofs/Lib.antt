@@ -1,0 +1,11 @@
+pub mod Correction
+pub mod Insertion
+pub mod LeadingDegree
+pub mod LogarithmicDerivative
+pub mod MergedDiagram
+pub mod MergedTerms
+pub mod Ratios
+pub mod RayGains
+pub mod ReducedRays
+pub mod StrictOrder
+pub mod TotalOrder

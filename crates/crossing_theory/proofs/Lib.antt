@@ -1,0 +1,14 @@
+pub mod AddedTerms
+pub mod BracketLaws
+pub mod Carrying
+pub mod CrossingLaws
+pub mod CutFunctions
+pub mod HalfWalls
+pub mod Keys
+pub mod LiveWalls
+pub mod LocalProductLaws
+pub mod OtherFunctions
+pub mod PassivePoints
+pub mod SortingByAngle
+pub mod Translation
+pub mod TwoWalls

@@ -1,0 +1,12 @@
+pub mod AngleTies
+pub mod Angles
+pub mod CommonPoints
+pub mod Directions
+pub mod LowestTerms
+pub mod Meetings
+pub mod Places
+pub mod PlacesOnWalls
+pub mod PointOrder
+pub mod Points
+pub mod Reduction
+pub mod WholeNumbers
