@@ -5,8 +5,8 @@ use Rattle.std.specs.Int.{◌∣◌, IsGcd, w128}
 use Rattle.std.proofs.Math.Nat.{dvd-mul_left, eq_of_mul-eq-mul_right}
 use Rattle.std.proofs.lemmas.Int.{ints, unsigned_abs-mul}
 use Rattle.std.proofs.lemmas.Nat.Gcd.{dvd_antisymm}
-use Rattle.sum_algebra.specs.Ring.{var, ring}
-use Rattle.sum_algebra.specs.RingUse.{ints_ring, ◌:*◌}
+use Rattle.sum_algebra.proofs.Ring.{var, ring}
+use Rattle.sum_algebra.proofs.IntegerRing.{ints_ring, ◌:*◌}
 use Rattle.frac_128.specs.Quotient.{IsLowest, AreEqual, IsReduced, LowestFits}
 use Rattle.frac_128.proofs.Coprime.{dvd_other_factor, coprime-swap, coprime-divisors, coprime-mul, coprime-quotients}
 

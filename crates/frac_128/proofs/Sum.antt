@@ -4,8 +4,8 @@ use Rattle.std.specs.Prelude.{ℤ, pos, ◌+ℤ◌, ◌*ℤ◌, ◌≤ℤ◌, na
 use Rattle.std.specs.Int.{IsGcd, w128}
 use Rattle.std.proofs.lemmas.Int.{ints}
 use Rattle.std.proofs.lemmas.Nat.Gcd.{same_from_IsGcd}
-use Rattle.sum_algebra.specs.Ring.{var, ring}
-use Rattle.sum_algebra.specs.RingUse.{ints_ring, ◌:*◌, ◌:+◌}
+use Rattle.sum_algebra.proofs.Ring.{var, ring}
+use Rattle.sum_algebra.proofs.IntegerRing.{ints_ring, ◌:*◌, ◌:+◌}
 use Rattle.frac_128.specs.Quotient.{IsLowest, AreEqual, IsReduced, SumFits}
 use Rattle.frac_128.proofs.Lowest.{nonzero, above, cancel, across, positive-mul}
 use Rattle.frac_128.proofs.Divided.{divided}
