@@ -1,10 +1,10 @@
-mod OriginLines
+pub mod OriginLines
 mod Commutator
 mod HalfWalls
 mod OriginImage
-mod ActivePoints
-mod Ray
-mod SecondOrder
+pub mod ActivePoints
+pub mod Ray
+pub mod SecondOrder
 pub mod Completes
 pub mod Existence
 mod Examples

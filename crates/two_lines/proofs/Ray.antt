@@ -10,6 +10,7 @@ use Rattle.scattering.specs.Series.{Key, Sum, Exp, Term, degree, rest, coef, ori
 use Rattle.scattering.specs.Plane.{IsDirection}
 use Rattle.scattering.proofs.Keys.{key_eq-same}
 use Rattle.scattering.proofs.Lists.{or-left}
+use Rattle.crossing_theory.proofs.LiveWalls.{scale-not_origin, direction-not_origin}
 use Rattle.plane_theory.proofs.Directions.{Multiple, as_multiple, cancel, positive-not}
 
 -- an exponent with a gcd of at least 1
@@ -20,6 +21,9 @@ gcd-not_origin m g le h e =
 
 pub positive-pos : (g : ℕ) → 1 ≤ g → pos 1 ≤ℤ pos g
 positive-pos g le = omega (arith, ints, le)
+
+pub multiple-not_origin : (j : ℤ) (d : Exp) → pos 1 ≤ℤ j → IsDirection d → scale j d ≢ origin
+multiple-not_origin j d le h = scale-not_origin j d (positive-not j le) (direction-not_origin d h)
 
 -- what is left of a multiple is a direction
 pub divided : (m d : Exp) (g : ℕ) → 1 ≤ g → IsGcd (nat_abs m.a) (nat_abs m.b) g → scale (pos g) d ≡ m → IsDirection d
@@ -72,16 +76,19 @@ module _ (k : Key) (c : ℤ) (n : k.exp ≢ origin) where
   two-unit f (unit_first b e) = ap (λ (f : Sum). coef f unit) e ∙ rw other refl
   two-unit f (unit_last b e) = ap (λ (f : Sum). coef f unit) e ∙ rw other refl
 
-  pub two-function : (f : Sum) (d : Exp) (g : ℤ) → Two k c f → c ≢ pos 0 → degree k ≡ 2 → pos 1 ≤ℤ g → k.exp ≡ scale g d → IsWallFunction 2 d f
-  two-function f d g t nonzero deg le e = record {
+  pub two-wall_function : (n : ℕ) (f : Sum) (d : Exp) (g : ℤ) → Two k c f → c ≢ pos 0 → 1 ≤ degree k → degree k ≤ n → pos 1 ≤ℤ g → k.exp ≡ scale g d → IsWallFunction n d f
+  two-wall_function n f d g t nonzero least most le e = record {
     series = series t;
     constant = two-unit f t;
-    others = subst (Every (λ (t : Term). (1 ≤ degree t.0) × IsMultiple d t.0.exp)) (sym (two-rest f t)) ((omega (arith, deg), (g, le, e)), tt);
+    others = subst (Every (λ (t : Term). (1 ≤ degree t.0) × IsMultiple d t.0.exp)) (sym (two-rest f t)) ((least, (g, le, e)), tt);
   }
     where
       one-not : pos 1 ≢ pos 0
       one-not q = omega (arith, ints, q)
 
-      series : Two k c f → IsSeries 2 f
-      series (unit_first b e) = subst (IsSeries 2) (sym e) (record { rises = ((b, tt), (tt, tt)); nonzero = (one-not, (nonzero, tt)); low = (omega arith, (omega (arith, deg), tt)) })
-      series (unit_last b e) = subst (IsSeries 2) (sym e) (record { rises = ((b, tt), (tt, tt)); nonzero = (nonzero, (one-not, tt)); low = (omega (arith, deg), (omega arith, tt)) })
+      series : Two k c f → IsSeries n f
+      series (unit_first b e) = subst (IsSeries n) (sym e) (record { rises = ((b, tt), (tt, tt)); nonzero = (one-not, (nonzero, tt)); low = (omega arith, (most, tt)) })
+      series (unit_last b e) = subst (IsSeries n) (sym e) (record { rises = ((b, tt), (tt, tt)); nonzero = (nonzero, (one-not, tt)); low = (most, (omega arith, tt)) })
+
+  pub two-function : (f : Sum) (d : Exp) (g : ℤ) → Two k c f → c ≢ pos 0 → degree k ≡ 2 → pos 1 ≤ℤ g → k.exp ≡ scale g d → IsWallFunction 2 d f
+  two-function f d g t nonzero deg le e = two-wall_function 2 f d g t nonzero (omega (arith, deg)) (omega (arith, deg)) le e

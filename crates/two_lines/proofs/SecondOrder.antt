@@ -36,7 +36,7 @@ module _ (u v : Wall) (s t : Term) (r : Wall) (h : IsRayOf u v s t r) (linear_s 
   ray-exp : (key_mul s.0 t.0).exp ≢ origin
   ray-exp = gcd-not_origin (exp_add s.0.exp t.0.exp) h.g h.positive h.gcd
 
-  value-not_zero : pos h.g *ℤ pos (nat_abs (det u.dir v.dir)) *ℤ s.1 *ℤ t.1 ≢ pos 0
+  pub value-not_zero : pos h.g *ℤ pos (nat_abs (det u.dir v.dir)) *ℤ s.1 *ℤ t.1 ≢ pos 0
   value-not_zero = product-not_zero _ t.1 (product-not_zero _ s.1 (product-not_zero (pos h.g) (pos (nat_abs (det u.dir v.dir))) (positive-not (pos h.g) (positive-pos h.g h.positive)) (size (det u.dir v.dir) cross)) ns) nt
     where
       size : (n : ℤ) → n ≢ pos 0 → pos (nat_abs n) ≢ pos 0
@@ -45,7 +45,7 @@ module _ (u v : Wall) (s t : Term) (r : Wall) (h : IsRayOf u v s t r) (linear_s 
   ray-two : Two (key_mul s.0 t.0) value r.function
   ray-two = subst (Two (key_mul s.0 t.0) value) (sym h.function) (two-sorted (key_mul s.0 t.0) value ray-exp)
 
-  ray-rest : rest r.function ≡ (key_mul s.0 t.0, value) ∷ []
+  pub ray-rest : rest r.function ≡ (key_mul s.0 t.0, value) ∷ []
   ray-rest = two-rest (key_mul s.0 t.0) value ray-exp r.function ray-two
 
   ray-degree : degree (key_mul s.0 t.0) ≡ 2
