@@ -18,12 +18,12 @@ pub gcd-is : (a b : ℕ) → IsGcd a b (gcd a b)
 unfolding gcd
 gcd-is a b = gcd_within-is b a b (omega arith)
 
+pub dvd_one : (d : ℕ) → d ∣ 1 → d ≡ 1
+dvd_one d h = dvd_antisymm h (one-dvd d)
+
 -- coprime numbers are those whose greatest common divisor is 1
 pub coprime_from_gcd : (a b : ℕ) → gcd a b ≡ 1 → AreCoprime a b
 coprime_from_gcd a b e d da db = let P : ℕ → Type 0 = λ g. d ∣ g in dvd_one d (subst P e ((gcd-is a b).2 d da db))
-  where
-    dvd_one : (d : ℕ) → d ∣ 1 → d ≡ 1
-    dvd_one d h = dvd_antisymm h (one-dvd d)
 
 pub gcd_from_coprime : (a b : ℕ) → AreCoprime a b → gcd a b ≡ 1
 gcd_from_coprime a b coprime = coprime (gcd a b) (gcd-is a b).0 (gcd-is a b).1

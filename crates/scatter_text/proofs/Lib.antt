@@ -1,2 +1,11 @@
 pub mod Divisors
 pub mod Binomials
+pub mod Cuts
+pub mod Numbers
+pub mod Coordinates
+pub mod Tokens
+pub mod Lines
+pub mod StageRows
+pub mod Texts
+pub mod RowTexts
+pub mod Validity

@@ -1,3 +1,5 @@
 pub mod Values
 pub mod Grammar
 pub mod Limits
+pub mod Reading
+pub mod Stages

