@@ -21,7 +21,7 @@ use Rattle.scattering.specs.Correction.{IsRatio, Lie, ratio_at, IsCorrection, Co
 use Rattle.scattering.proofs.Pairing.{coef-append}
 use Rattle.scattering.proofs.Lists.{Every-implies, Every-append, Every-filter, Every-at, Every-mapped}
 use Rattle.scattering.proofs.Keys.{key_eq-same, point_eq-same, point_eq-refl, origin-case, key_eq-apart}
-use Rattle.correction_theory.proofs.StrictOrder.{coef-none}
+use Rattle.plane_theory.proofs.StrictOrder.{coef-none}
 use Rattle.plane_theory.proofs.Directions.{det-scale, zero-factor, positive-not, Multiple, as_multiple}
 use Rattle.crossing_theory.proofs.Translation.{Eq, from_Eq, key_test, coef-is}
 use Rattle.crossing_theory.proofs.Keys.{keys}

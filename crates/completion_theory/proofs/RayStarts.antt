@@ -22,7 +22,7 @@ use Rattle.scattering.specs.Correction.{ray_coef}
 use Rattle.scattering.proofs.Pairing.{coef-append}
 use Rattle.scattering.proofs.Lists.{and-right, Every-implies, Every-append, Every-filter, any-none, filter-keeps, Every-from_In, Every-at, any-false, In-map, In-append, filter-from}
 use Rattle.scattering.proofs.Keys.{point_eq-same}
-use Rattle.correction_theory.proofs.StrictOrder.{ray_coef-own}
+use Rattle.correction_theory.proofs.RayCoefficients.{ray_coef-own}
 use Rattle.plane_theory.proofs.Directions.{direction-zero}
 use Rattle.crossing_theory.proofs.Keys.{keys, turn}
 use Rattle.crossing_theory.proofs.Translation.{Eq, Eq-refl, Eq-trans, Eq-sym, from_Eq, key_test, coef-is}

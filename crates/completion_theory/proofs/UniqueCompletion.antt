@@ -19,7 +19,7 @@ use Rattle.scattering.specs.Correction.{ray_coef}
 use Rattle.scattering.proofs.Pairing.{coef-append}
 use Rattle.scattering.proofs.Lists.{Every-implies, Every-append, Every-filter, map-append}
 use Rattle.scattering.proofs.Keys.{key_eq-same, key_eq-apart}
-use Rattle.correction_theory.proofs.StrictOrder.{coef-none, dead-coef}
+use Rattle.plane_theory.proofs.StrictOrder.{coef-none, dead-coef}
 use Rattle.plane_theory.proofs.Directions.{direction-zero}
 use Rattle.crossing_theory.proofs.Translation.{from_Eq}
 use Rattle.crossing_theory.proofs.HalfWalls.{Proper, proper}

@@ -23,7 +23,7 @@ use Rattle.scattering.specs.LocalProduct.{axis_x, axis_y}
 use Rattle.scattering.specs.Correction.{Ratio, IsRatio, Lie, ratio_at}
 use Rattle.scattering.proofs.Lists.{or-left, or-right, any-none, Every-from_In}
 use Rattle.scattering.proofs.Keys.{key_eq-same, key_eq-refl, int_eq-same, origin-case}
-use Rattle.correction_theory.proofs.StrictOrder.{coef-find}
+use Rattle.plane_theory.proofs.StrictOrder.{coef-find}
 use Rattle.plane_theory.proofs.Directions.{det-scale, zero-factor, positive-not, as_multiple}
 use Rattle.crossing_theory.proofs.Keys.{keys}
 use Rattle.crossing_theory.proofs.Translation.{Eq, Eq-refl, Eq-trans, Eq-sym, key_test}

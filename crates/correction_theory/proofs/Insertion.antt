@@ -5,7 +5,7 @@ use Rattle.sum_algebra.proofs.Ring.{var, nought, ring}
 use Rattle.sum_algebra.proofs.IntegerRing.{ints_ring, ◌:+◌, X, Y, Z}
 use Rattle.scattering.specs.Collections.{Every, EveryPair}
 use Rattle.scattering.proofs.Lists.{Every-implies, Every-append, pairs-append}
-use Rattle.correction_theory.proofs.TotalOrder.{Compared}
+use Rattle.plane_theory.proofs.TotalOrder.{Compared}
 
 -- elements have a place in an order; what they count for, under each name i, is summed
 module _ {A K I : Type 0} (place : A → K) (lt : K → K → Bool) (Good : A → Type 0) (count : I → A → ℤ) where

@@ -18,8 +18,8 @@ use Rattle.scattering.proofs.Keys.{key_eq-same, key_eq-refl, exp_eq-same, exp_eq
 use Rattle.scattering.proofs.Lists.{Every-from_In, Every-at, Every-implies, any-true}
 use Rattle.plane_theory.proofs.Directions.{Multiple, as_multiple, same-direction, positive-not}
 use Rattle.plane_theory.proofs.PointOrder.{before-irrefl}
-use Rattle.correction_theory.proofs.StrictOrder.{coef-none, coef-find, dead-coef}
-use Rattle.correction_theory.proofs.TotalOrder.{Place, place_before, place-total, place-trans}
+use Rattle.plane_theory.proofs.StrictOrder.{coef-none, coef-find, dead-coef}
+use Rattle.plane_theory.proofs.TotalOrder.{Place, place_before, place-total, place-trans}
 use Rattle.correction_theory.proofs.Insertion.{total, Joined, Inserted, insert}
 use Rattle.correction_theory.proofs.MergedTerms.{zero-or-not, Added, add-term, one-is}
 use Rattle.correction_theory.specs.Laws.{MergedDiagramExists}
