@@ -7,7 +7,7 @@ use Rattle.scattering.specs.Wall.{Wall, IsWall}
 use Rattle.scattering.specs.BrokenLine.{Bend, IsBrokenLine, value}
 use Rattle.scattering.specs.Tail.{Tail, IsTail, IsComplete, is_complete, backwards}
 use Rattle.scattering.specs.Theta.{AskFault, IsAskFault, IsTheta}
-use Rattle.scattering.specs.ThetaProduct.{IsThetaProduct, IsFamily, Runs}
+use Rattle.scattering.specs.ThetaProduct.{IsThetaProduct, IsFamily, Runs, IsProductFault}
 
 -- where nothing fails, the broken lines are the complete tails
 abbrev pub LinesAreTails : Type 0
@@ -48,3 +48,7 @@ FamilyIsUnique = (ws : List Wall) (n k : ℕ) (l r : Exp) (q : Point) (a b : Sum
 -- steps that end without a fault end with it
 abbrev pub StepsEndWithFamily : Type 0
 StepsEndWithFamily = (ws : List Wall) (n k : ℕ) (l r : Exp) (q : Point) (s a : Sum) (first w : ℕ) → Every (IsWall k) ws → IsPoint q → IsThetaProduct ws n l r q s → Runs ws n q s first (n + 1) a w → IsFamily ws n l r q a
+
+-- the product of two thetas has one first fault, or none
+abbrev pub ProductFaultIsUnique : Type 0
+ProductFaultIsUnique = (ws : List Wall) (n k : ℕ) (l r : Exp) (q : Point) (f g : Option AskFault) → Every (IsWall k) ws → IsPoint q → IsProductFault ws n l r q f → IsProductFault ws n l r q g → f ≡ g
