@@ -1,14 +1,14 @@
 -- The product of two thetas has one first fault, or none: its steps are determined.
-use Rattle.std.proofs.Common.{◌≡◌, ◌≢◌, ℕ, zero, suc, refl, sym, ap, subst, ◌∙◌, ◌+◌, ◌-◌, ◌*◌, ◌<◌, ◌≤◌, ◌^◌, ◌⊎◌, inl, inr, arith, Bool, true, false, List, [], ◌∷◌, ◌++◌, add-one}
+use Rattle.std.proofs.Common.{◌≡◌, ◌≢◌, ℕ, zero, suc, refl, sym, ap, subst, ◌∙◌, ◌+◌, ◌-◌, ◌*◌, ◌<◌, ◌≤◌, ◌^◌, ◌⊎◌, inl, inr, arith, Bool, true, false, List, [], ◌∷◌}
 use Rattle.std.specs.Prelude.{ℤ, pos, ◌+ℤ◌, ◌-ℤ◌, ◌==◌, IsTrue, Option, Some, None, nat_abs}
 use Rattle.std.proofs.lemmas.Int.{ints}
 use native.Mathlib.Decide.{dec_le}
 use Rattle.scattering.specs.Collections.{In, Every}
-use Rattle.scattering.specs.Series.{Exp, Key, Sum, Term, origin, exp_eq, exp_before, degree, coef, mul, minus, Same, SameTo, IsSeries}
+use Rattle.scattering.specs.Series.{Exp, Key, Sum, Term, origin, exp_eq, exp_before, degree, coef, SameTo, IsSeries}
 use Rattle.scattering.specs.Plane.{Point, IsPoint}
 use Rattle.scattering.specs.Wall.{Wall, IsWall}
-use Rattle.scattering.specs.Theta.{AskFault, WeightTooLarge, IsAskFault, IsWeight}
-use Rattle.scattering.specs.ThetaProduct.{BeginsAt, combined, AreThetas, IsThetaProduct, IsThetaWeight, of_degree, weight_of, IsNext, Runs, begins, goes, FailsAt, StepsFault, IsProductFault}
+use Rattle.scattering.specs.Theta.{AskFault, WeightTooLarge, IsAskFault}
+use Rattle.scattering.specs.ThetaProduct.{BeginsAt, combined, IsThetaProduct, IsThetaWeight, of_degree, weight_of, IsNext, Runs, begins, goes, FailsAt, StepsFault, IsProductFault}
 use Rattle.scattering.proofs.Lists.{Every-at, Every-from_In, Every-filter}
 use Rattle.plane_theory.proofs.StrictOrder.{series-unique, coef-own}
 use Rattle.plane_theory.proofs.TotalOrder.{Compared, exp-total}

@@ -1,7 +1,7 @@
 -- Inserting an element into a list in strict order, where it is joined with the element that has its place.
-use Rattle.std.proofs.Common.{◌≡◌, refl, subst, sym, ◌∙◌, ap, List, [], ◌∷◌, ◌++◌, Bool, true, false, inl, inr, ◌⊎◌}
+use Rattle.std.proofs.Common.{◌≡◌, refl, subst, sym, ◌∙◌, ap, List, [], ◌∷◌, ◌++◌, Bool, true, inl, inr}
 use Rattle.std.specs.Prelude.{ℤ, pos, ◌+ℤ◌, IsTrue}
-use Rattle.sum_algebra.proofs.Ring.{var, nought, ring}
+use Rattle.sum_algebra.proofs.Ring.{nought, ring}
 use Rattle.sum_algebra.proofs.IntegerRing.{ints_ring, ◌:+◌, X, Y, Z}
 use Rattle.scattering.specs.Collections.{Every, EveryPair}
 use Rattle.scattering.proofs.Lists.{Every-implies, Every-append, pairs-append}

@@ -1,22 +1,19 @@
 -- The coefficients of rays in order: of the one ray at a place.
-use Rattle.std.proofs.Common.{◌≡◌, ◌≢◌, ℕ, refl, subst, sym, ◌∙◌, ap, List, [], ◌∷◌, Bool, true, false, arith, inl, inr, ◌⊎◌}
-use Rattle.std.specs.Prelude.{ℤ, pos, ◌&&◌, ◌||◌, nat_lt, ◌==◌, ◌+ℤ◌, ◌*ℤ◌, IsTrue, int_lt}
-use Rattle.std.proofs.lemmas.Int.{ints}
+use Rattle.std.proofs.Common.{◌≡◌, ◌≢◌, refl, subst, sym, List, [], ◌∷◌, Bool, true, false, inl, inr, ◌⊎◌}
+use Rattle.std.specs.Prelude.{pos, ◌&&◌, ◌||◌, IsTrue}
 use Rattle.sum_algebra.proofs.Ring.{nought, ring}
 use Rattle.sum_algebra.proofs.IntegerRing.{ints_ring, ◌:+◌, X}
-use Rattle.std.specs.List.{list_any}
 use Rattle.scattering.specs.Collections.{In, Every, EveryPair}
-use Rattle.scattering.specs.Series.{Key, Sum, Exp, Powers, Term, degree, rest, coef, key_eq, exp_eq, int_eq, key_before, exp_before, powers_before, powers_eq}
-use Rattle.scattering.specs.Series as D
+use Rattle.scattering.specs.Series.{Key, Exp, rest, coef, exp_eq, exp_before}
 use Rattle.scattering.specs.Plane.{Point, point_eq, point_before}
 use Rattle.scattering.specs.Wall.{Wall}
 use Rattle.scattering.specs.Completion.{ray_before}
 use Rattle.scattering.specs.Correction.{ray_coef}
 use Rattle.scattering.proofs.Lists.{Every-at}
-use Rattle.scattering.proofs.Keys.{key_eq-same, key_eq-refl, exp_eq-same, point_eq-same}
+use Rattle.scattering.proofs.Keys.{exp_eq-same, point_eq-same}
 use Rattle.scattering.proofs.Keys.{point_eq-refl, exp_eq-refl}
 use Rattle.scattering.proofs.Lists.{Every-implies}
-use Rattle.plane_theory.proofs.StrictOrder.{ray_before-asym, bool_cases, and-both, coef-none}
+use Rattle.plane_theory.proofs.StrictOrder.{ray_before-asym, bool_cases, and-both}
 
 abbrev pub RaysRise : List Wall → Type 0
 RaysRise rays = EveryPair (λ (r s : Wall). IsTrue (ray_before r s)) rays

@@ -11,7 +11,6 @@ use Rattle.scattering.specs.Series as D
 use Rattle.scattering.specs.Plane.{Point, point_eq, point_before}
 use Rattle.scattering.specs.Wall.{Wall}
 use Rattle.scattering.specs.Completion.{ray_before}
-use Rattle.scattering.specs.Correction.{ray_coef}
 use Rattle.scattering.proofs.Lists.{Every-at, Every-implies}
 use Rattle.scattering.proofs.Keys.{key_eq-same, key_eq-refl, exp_eq-same, point_eq-same}
 

@@ -100,7 +100,14 @@ first-trans x y z l m n h = two-trans nat_lt (λ x y. x == y) nat-same nat-itsel
 pub powers-total : (p q : Powers) → Compared (powers_before p q) (powers_before q p) (p ≡ q)
 powers-total p q =
     compared-as _ (p ≡ q) (λ e. λ i. record {
-      t1 = e.0 i; t2 = e.1.0 i; t3 = e.1.1.0 i; t4 = e.1.1.1.0 i; t5 = e.1.1.1.1.0 i; t6 = e.1.1.1.1.1.0 i; t7 = e.1.1.1.1.1.1.0 i; t8 = e.1.1.1.1.1.1.1 i;
+      t1 = e.0 i;
+      t2 = e.1.0 i;
+      t3 = e.1.1.0 i;
+      t4 = e.1.1.1.0 i;
+      t5 = e.1.1.1.1.0 i;
+      t6 = e.1.1.1.1.1.0 i;
+      t7 = e.1.1.1.1.1.1.0 i;
+      t8 = e.1.1.1.1.1.1.1 i;
     })
     (first-total p.t1 q.t1 _ _ _ (first-total p.t2 q.t2 _ _ _ (first-total p.t3 q.t3 _ _ _ (first-total p.t4 q.t4 _ _ _
     (first-total p.t5 q.t5 _ _ _ (first-total p.t6 q.t6 _ _ _ (first-total p.t7 q.t7 _ _ _ (nat-total p.t8 q.t8))))))))

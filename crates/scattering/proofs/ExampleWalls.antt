@@ -5,7 +5,7 @@
 use Rattle.std.proofs.Common.{ℕ, List, [], ◌∷◌, ◌++◌, ◌||◌, Bool}
 use Rattle.std.specs.Prelude.{ℤ, pos, nat_lt}
 use Rattle.std.specs.List.{list_all}
-use Rattle.scattering.specs.Series.{Exp, Powers, Key, Term, Sum, coef, degree, int_eq, no_powers, unit, z, monomial}
+use Rattle.scattering.specs.Series.{Exp, Key, Term, Sum, coef, degree, int_eq, no_powers, unit, z, monomial}
 use Rattle.scattering.specs.Plane.{Point}
 use Rattle.scattering.specs.Wall.{WallKind, Line, Outgoing, Wall}
 use Rattle.scattering.specs.LocalProduct.{image, axis_x, axis_y}
