@@ -11,10 +11,10 @@ use Rattle.scattering.specs.Wall.{Wall, IsWall}
 use Rattle.scattering.specs.BrokenLine.{value}
 use Rattle.scattering.specs.Theta.{IsAskFault, IsTheta, TooManyReach, TooManyTails, PointTooLarge, WeightTooLarge}
 use Rattle.scattering.specs.ThetaProduct.{BeginsAt, combined, AreThetas, IsThetaProduct, IsFamily, IsNext, Runs, begins, goes}
-use Rattle.scattering.proofs.Lists.{Every-at}
 use Rattle.broken_line_theory.proofs.CompleteTails.{free-of, passes, none-some}
 use Rattle.broken_line_theory.proofs.ThetaOfTails.{forwards, theta-of-tails}
 use Rattle.scattering.specs.Tail.{is_complete}
+use Rattle.scattering.proofs.Lists.{Every-at}
 use Rattle.broken_line_theory.proofs.UniqueFamily.{AgreeBelow, shared-begin, is-zero, excess-same, key-term}
 use Rattle.broken_line_theory.proofs.UniqueFamily as U
 use Rattle.broken_line_theory.specs.Laws.{StepsEndWithFamily}

@@ -19,9 +19,7 @@ use Rattle.broken_line_theory.proofs.UniqueFamily.{AgreeBelow, excess-same}
 use Rattle.broken_line_theory.proofs.UniqueFamily as F
 use Rattle.broken_line_theory.proofs.ProductSteps.{next-coef}
 use Rattle.broken_line_theory.specs.Laws.{ProductFaultIsUnique}
-
-none-some : {A : Type 0} (x : A) → None ≡ Some x → ⊥
-none-some x e = absurd (cc)
+use Rattle.broken_line_theory.proofs.CompleteTails.{none-some}
 
 some-inject : {A : Type 0} (x y : A) → Some x ≡ Some y → x ≡ y
 some-inject x y e = cc

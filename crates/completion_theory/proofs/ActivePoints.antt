@@ -7,8 +7,6 @@ use Rattle.scattering.specs.Series.{Sum, Term, degree, rest, cut, key_eq, unit, 
 use Rattle.scattering.specs.Plane.{Point, point_eq, difference}
 use Rattle.scattering.specs.Wall.{Line, Incoming, Outgoing, Wall, WallKind, IsWall, allows, is_on, is_live, is_line, starts_at, are_parallel, crosses_to, has_term_to, cut_wall, cut_walls, Diagram, walls}
 use Rattle.scattering.specs.ActivePoint.{is_active, is_incoming, walls_on, begins_at, crosses_at, is_newly_active}
-use Rattle.scattering.proofs.Lists.{any-true, any-some, or-out, and-in, and-left, and-right, not-out, filter-keeps, filter-from, In-map, In-mapped, In-left, In-right, In-append, Every-at, Every-implies}
-use Rattle.scattering.proofs.Keys.{point_eq-same}
 use Rattle.correction_theory.proofs.ReducedRays.{live-term}
 use Rattle.crossing_theory.proofs.HalfWalls.{Proper, proper}
 use Rattle.completion_theory.proofs.RaisedDiagram.{lift_wall, lifted, lifted-proper, Given, givens}
@@ -18,6 +16,9 @@ use Rattle.completion_theory.proofs.UniqueCorrection.{rays_start_at_active_point
 use Rattle.completion_theory.specs.Laws.{ActivePointsGrow, AddedTermsActivateNothing, ActivePointsOfNextOrder, LiveRaysStartAtActivePoints}
 use Rattle.scattering.specs.Completion.{lowered}
 use Rattle.scattering.specs.Correction.{raised}
+use Rattle.scattering.proofs.Lists.{any-true, any-some, filter-keeps, filter-from, In-map, In-append, Every-at, or-first, or-second, or-out, and-in, and-left, and-right, bool_iff, not-out, In-mapped, In-left, In-right, Every-implies}
+use Rattle.scattering.proofs.Keys.{point_eq-same}
+use Rattle.completion_theory.proofs.RayStarts.{nat_le-yes}
 
 -- ---- the two ways to be active
 
@@ -46,9 +47,6 @@ pub record EntersAt (k : ℕ) (ws : List Wall) (p : Point) : Type 0 where
   pub t_in : In t (rest w.function)
   pub low : degree t.0 ≤ k
 
-nat_le-out : (d k : ℕ) → nat_le d k ≡ true → d ≤ k
-nat_le-out d k e = grind arith
-
 nat_le-in : (d k : ℕ) → d ≤ k → nat_le d k ≡ true
 nat_le-in d k e = grind arith
 
@@ -66,7 +64,7 @@ active-out k ws p e = go (or-out (list_any (λ u. list_any (crosses_to k u) (wal
         inl (record {
           u = u.0; v = v.0; u_in = a.0; v_in = b.0; u_on = a.1; v_on = b.1;
           across = not-out (are_parallel u.0 v.0) (and-left (not (are_parallel u.0 v.0)) _ v.2);
-          s = s.0; t = t.0; s_in = s.1; t_in = t.1; low = nat_le-out (degree s.0.0 + degree t.0.0) k t.2;
+          s = s.0; t = t.0; s_in = s.1; t_in = t.1; low = nat_le-yes (degree s.0.0 + degree t.0.0) k t.2;
         })
     go (inr h) =
         let w = any-some (λ w. is_incoming w.kind && point_eq w.at p && has_term_to k w) ws h in
@@ -74,16 +72,8 @@ active-out k ws p e = go (or-out (list_any (λ u. list_any (crosses_to k u) (wal
         let g = and-left (is_incoming w.0.kind && point_eq w.0.at p) (has_term_to k w.0) w.2 in
         inr (record {
           w = w.0; w_in = w.1; incoming = and-left (is_incoming w.0.kind) (point_eq w.0.at p) g; at = and-right (is_incoming w.0.kind) (point_eq w.0.at p) g;
-          t = t.0; t_in = t.1; low = nat_le-out (degree t.0.0) k t.2;
+          t = t.0; t_in = t.1; low = nat_le-yes (degree t.0.0) k t.2;
         })
-
-or-first : (a b : Bool) → a ≡ true → (a || b) ≡ true
-or-first true b e = refl
-or-first false b e = absurd (cc)
-
-or-second : (a b : Bool) → b ≡ true → (a || b) ≡ true
-or-second true b e = refl
-or-second false b e = e
 
 pub active-in : (k : ℕ) (ws : List Wall) (p : Point) → CrossesAt k ws p ⊎ EntersAt k ws p → is_active k ws p ≡ true
 active-in k ws p (inl h) =
@@ -159,7 +149,7 @@ pub cut-from : (n : ℕ) (f : Sum) (t : Term) → In t (rest (cut n f)) → In t
 cut-from n f t i =
     let j = filter-from (λ (t : Term). not (key_eq t.0 unit)) (cut n f) t i in
     let l = filter-from (λ (t : Term). nat_le (degree t.0) n) f t j.0 in
-    (filter-keeps (λ (t : Term). not (key_eq t.0 unit)) f t l.0 j.1, nat_le-out (degree t.0) n l.1)
+    (filter-keeps (λ (t : Term). not (key_eq t.0 unit)) f t l.0 j.1, nat_le-yes (degree t.0) n l.1)
 
 -- a live wall has a term
 live-of : (w : Wall) (t : Term) → In t (rest w.function) → is_live w ≡ true
@@ -283,14 +273,9 @@ module _ (n : ℕ) (given rays : List Wall) (out : Every (λ r. r.kind ≡ Outgo
               clash : false ≡ true → ⊥
               clash q = cc
 
-  bool-same : (a b : Bool) → (a ≡ true → b ≡ true) → (b ≡ true → a ≡ true) → a ≡ b
-  bool-same true b f g = sym (f refl)
-  bool-same false true f g = g refl
-  bool-same false false f g = refl
-
   pub same-active : (p : Point) → Every Proper (before n given rays) → Every Proper (beyond n given rays) → is_active (suc n) (beyond n given rays) p ≡ is_active (suc n) (before n given rays) p
   same-active p a b =
-      bool-same _ _
+      bool_iff _ _
       (active-covered n (beyond n given rays) (before n given rays) p b later-covered)
       (active-covered n (before n given rays) (beyond n given rays) p a earlier-covered)
 

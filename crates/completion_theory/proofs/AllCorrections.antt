@@ -8,8 +8,8 @@ use Rattle.scattering.specs.Wall.{Wall, Diagram, IsWall, IsInitial, walls, is_on
 use Rattle.scattering.specs.Completion.{IsCompletion}
 use Rattle.scattering.specs.ActivePoint.{is_active, is_incoming}
 use Rattle.scattering.specs.Correction.{Lie, IsCorrection, IsWhole, Corrections, AreCorrections, raised}
+use Rattle.scattering.proofs.Lists.{Every-from_In, Every-at, Every-append, Every-filter, In-append, In-map, filter-keeps, filter-from, and-left, In-mapped, In-left, In-right, Every-implies}
 use Rattle.scattering.proofs.Keys.{int_eq-same, point_eq-same}
-use Rattle.scattering.proofs.Lists.{Every-from_In, Every-at, Every-implies, Every-append, Every-filter, In-mapped, In-left, In-right, In-append, In-map, filter-keeps, filter-from, and-left}
 use Rattle.plane_theory.proofs.PointOrder.{before-total, before-trans}
 use Rattle.plane_theory.proofs.CommonPoints.{IsCommon, common, common-unique}
 use Rattle.completion_theory.proofs.RaisedDiagram.{lift_wall, lifted}

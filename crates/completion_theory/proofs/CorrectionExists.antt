@@ -7,7 +7,6 @@ use Rattle.scattering.specs.Plane.{Point}
 use Rattle.scattering.specs.Wall.{Wall, IsWall, cut_walls, walls}
 use Rattle.scattering.specs.LocalProduct.{image, carry, half_walls, axis_x, axis_y, IsConsistentAt}
 use Rattle.scattering.specs.Correction.{Lie, ratio_at, IsCorrection, IsWhole, Ratio, raised}
-use Rattle.scattering.proofs.Lists.{Every-implies, Every-append, Every-mapped, Every-from_In, Every-at}
 use Rattle.crossing_theory.proofs.Translation.{Eq, Eq-trans, to_Eq}
 use Rattle.crossing_theory.proofs.HalfWalls.{Proper, proper}
 use Rattle.crossing_theory.proofs.OtherFunctions.{of_halves}
@@ -22,6 +21,7 @@ use Rattle.completion_theory.proofs.UniqueCorrection.{correction_is_unique}
 use Rattle.sum_algebra.proofs.Ring.{nought, ring}
 use Rattle.sum_algebra.proofs.Ring as E
 use Rattle.sum_algebra.proofs.IntegerRing.{ints_ring, ◌:*◌, X}
+use Rattle.scattering.proofs.Lists.{Every-append, Every-mapped, Every-from_In, Every-at, Every-implies}
 use Rattle.scattering.proofs.Keys.{key_eq-same, key_eq-refl}
 
 -- where both images are the identity below degree n + 1

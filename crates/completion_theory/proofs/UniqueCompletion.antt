@@ -17,10 +17,10 @@ use Rattle.scattering.specs.Completion.{IsCompletion, lowered}
 use Rattle.scattering.specs.ActivePoint.{is_incoming}
 use Rattle.scattering.specs.Correction.{ray_coef}
 use Rattle.scattering.proofs.Pairing.{coef-append}
-use Rattle.scattering.proofs.Lists.{Every-implies, Every-append, Every-filter, map-append}
+use Rattle.scattering.proofs.Lists.{Every-append, Every-filter, map-append, Every-implies}
 use Rattle.scattering.proofs.Keys.{key_eq-same, key_eq-apart}
-use Rattle.plane_theory.proofs.StrictOrder.{coef-none, dead-coef}
 use Rattle.plane_theory.proofs.Directions.{direction-zero}
+use Rattle.plane_theory.proofs.StrictOrder.{coef-none, dead-coef}
 use Rattle.crossing_theory.proofs.Translation.{from_Eq}
 use Rattle.crossing_theory.proofs.HalfWalls.{Proper, proper}
 use Rattle.crossing_theory.proofs.OtherFunctions.{refit}

@@ -21,10 +21,10 @@ use Rattle.scattering.specs.Series.{Key, Sum, Exp, Powers, Term, degree, det, z,
 use Rattle.scattering.specs.Series as D
 use Rattle.scattering.specs.LocalProduct.{axis_x, axis_y}
 use Rattle.scattering.specs.Correction.{Ratio, IsRatio, Lie, ratio_at}
-use Rattle.scattering.proofs.Lists.{or-left, or-right, any-none, Every-from_In}
-use Rattle.scattering.proofs.Keys.{key_eq-same, key_eq-refl, int_eq-same, origin-case}
-use Rattle.plane_theory.proofs.StrictOrder.{coef-find}
+use Rattle.scattering.proofs.Lists.{any-none, Every-from_In, or-left, or-right, In-mapped, In-left, In-right}
+use Rattle.scattering.proofs.Keys.{key_eq-same, key_eq-refl, origin-case, int_eq-same}
 use Rattle.plane_theory.proofs.Directions.{det-scale, zero-factor, positive-not, as_multiple}
+use Rattle.plane_theory.proofs.StrictOrder.{coef-find}
 use Rattle.crossing_theory.proofs.Keys.{keys}
 use Rattle.crossing_theory.proofs.Translation.{Eq, Eq-refl, Eq-trans, Eq-sym, key_test}
 use Rattle.crossing_theory.proofs.CutFunctions.{above}
@@ -309,20 +309,6 @@ module _ (n : ℕ) (θ : Sum → Sum) (auto : Auto (suc n) θ) (flux : Flux (suc
   abbrev all_keys : List Key
   all_keys = map (λ (t : Term). less t.0 axis_x) (θ (monomial (z axis_x))) ++ map (λ (t : Term). less t.0 axis_y) (θ (monomial (z axis_y)))
 
-  In-mapped : {A B : Type 0} (f : A → B) (xs : List A) (x : A) → In x xs → In (f x) (map f xs)
-  In-mapped f [] x i = absurd i
-  In-mapped f (y ∷ xs) x (inl e) = inl (ap f e)
-  In-mapped f (y ∷ xs) x (inr i) = inr (In-mapped f xs x i)
-
-  In-first : {A : Type 0} (xs ys : List A) (x : A) → In x xs → In x (xs ++ ys)
-  In-first [] ys x i = absurd i
-  In-first (y ∷ xs) ys x (inl e) = inl e
-  In-first (y ∷ xs) ys x (inr i) = inr (In-first xs ys x i)
-
-  In-second : {A : Type 0} (xs ys : List A) (x : A) → In x ys → In x (xs ++ ys)
-  In-second [] ys x i = i
-  In-second (y ∷ xs) ys x i = inr (In-second xs ys x i)
-
   less-key : (k : Key) (m : Exp) → less (key_mul k (z m)) m ≡ k
   less-key k m = ap (λ (x : Key). less x m) (keys.comm k (z m)) ∙ less-forth k m
 
@@ -346,7 +332,7 @@ module _ (n : ℕ) (θ : Sum → Sum) (auto : Auto (suc n) θ) (flux : Flux (suc
   built = build all_keys
 
   zero-unless : (k : Key) → degree k ≡ suc n → listed k built.h ≡ false → Zero k
-  zero-unless k deg no_k = (of (at_x k) (int-case (at_x k)) (λ q. In-first _ _ k (stands axis_x (θ (monomial (z axis_x))) k q)) (λ z. z.0), of (at_y k) (int-case (at_y k)) (λ q. In-second _ _ k (stands axis_y (θ (monomial (z axis_y))) k q)) (λ z. z.1))
+  zero-unless k deg no_k = (of (at_x k) (int-case (at_x k)) (λ q. In-left _ _ k (stands axis_x (θ (monomial (z axis_x))) k q)) (λ z. z.0), of (at_y k) (int-case (at_y k)) (λ q. In-right _ _ k (stands axis_y (θ (monomial (z axis_y))) k q)) (λ z. z.1))
     where
       of : (x : ℤ) → (x ≡ pos 0) ⊎ (x ≢ pos 0) → (x ≢ pos 0 → In k all_keys) → (Zero k → x ≡ pos 0) → x ≡ pos 0
       of x (inl e) f g = e

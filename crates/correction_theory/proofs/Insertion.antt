@@ -4,7 +4,7 @@ use Rattle.std.specs.Prelude.{ℤ, pos, ◌+ℤ◌, IsTrue}
 use Rattle.sum_algebra.proofs.Ring.{nought, ring}
 use Rattle.sum_algebra.proofs.IntegerRing.{ints_ring, ◌:+◌, X, Y, Z}
 use Rattle.scattering.specs.Collections.{Every, EveryPair}
-use Rattle.scattering.proofs.Lists.{Every-implies, Every-append, pairs-append}
+use Rattle.scattering.proofs.Lists.{Every-append, pairs-append, Every-implies}
 use Rattle.plane_theory.proofs.TotalOrder.{Compared}
 
 -- elements have a place in an order; what they count for, under each name i, is summed

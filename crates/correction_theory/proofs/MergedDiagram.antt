@@ -9,11 +9,10 @@ use Rattle.scattering.specs.Collections.{Every, EveryPair}
 use Rattle.scattering.specs.Series.{Key, Sum, Exp, Term, degree, rest, one, coef, coef_at, key_eq, exp_eq, origin, IsMultiple}
 use Rattle.scattering.specs.Plane.{Point, IsPoint, IsDirection, point_eq, point_before}
 use Rattle.scattering.specs.Wall.{Outgoing, Wall, IsWall, is_live, cut_walls}
-use Rattle.crossing_theory.proofs.LiveWalls.{scale-not_origin, direction-not_origin}
 use Rattle.scattering.specs.Correction.{Ratio, Lie, ratio_at, ray_coef, Corrections, IsWhole, IsAdded, AreMergeable}
+use Rattle.scattering.proofs.Lists.{Every-from_In, Every-at, any-true, Every-implies}
 use Rattle.scattering.proofs.Keys.{key_eq-same, key_eq-refl, exp_eq-refl, point_eq-same}
-use Rattle.scattering.proofs.Lists.{Every-from_In, Every-at, Every-implies, any-true}
-use Rattle.plane_theory.proofs.Directions.{Multiple, as_multiple, same-direction, positive-not}
+use Rattle.plane_theory.proofs.Directions.{Multiple, as_multiple, same-direction, positive-not, direction-not_origin, scale-not_origin}
 use Rattle.plane_theory.proofs.PointOrder.{before-irrefl}
 use Rattle.plane_theory.proofs.StrictOrder.{coef-none, coef-find, dead-coef}
 use Rattle.plane_theory.proofs.TotalOrder.{Place, place_before, place-total, place-trans}

@@ -9,10 +9,8 @@ use Rattle.scattering.specs.Plane.{Point, point_eq, point_before}
 use Rattle.scattering.specs.Wall.{Wall}
 use Rattle.scattering.specs.Completion.{ray_before}
 use Rattle.scattering.specs.Correction.{ray_coef}
-use Rattle.scattering.proofs.Lists.{Every-at}
-use Rattle.scattering.proofs.Keys.{exp_eq-same, point_eq-same}
-use Rattle.scattering.proofs.Keys.{point_eq-refl, exp_eq-refl}
-use Rattle.scattering.proofs.Lists.{Every-implies}
+use Rattle.scattering.proofs.Lists.{Every-implies, Every-at}
+use Rattle.scattering.proofs.Keys.{point_eq-refl, exp_eq-refl, point_eq-same, exp_eq-same}
 use Rattle.plane_theory.proofs.StrictOrder.{ray_before-asym, bool_cases, and-both}
 
 abbrev pub RaysRise : List Wall → Type 0

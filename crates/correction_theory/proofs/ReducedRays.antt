@@ -21,10 +21,6 @@ first-term (t ∷ f) h = (t, inl refl)
 pub live-term : (r : Wall) → IsTrue (is_live r) → (t : Term) × In t (rest r.function)
 live-term r h = first-term (rest r.function) h
 
-not-true : (b : Bool) → not b ≡ true → b ≡ false
-not-true true e = absurd (cc)
-not-true false e = refl
-
 -- a term of the rest: its coefficient, its exponent
 pub rest-own : (n : ℕ) (r : Wall) → IsWall n r → (t : Term) → In t (rest r.function) → coef (rest r.function) t.0 ≡ t.1
 rest-own n r w t i = coef-own (rest r.function) (pairs-filter _ _ r.function w.function.series.rises) t i

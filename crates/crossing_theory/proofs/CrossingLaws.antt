@@ -7,8 +7,8 @@ use Rattle.sum_algebra.proofs.IntegerRing.{ints_ring, X}
 use Rattle.scattering.specs.Series.{Exp, Key, Term, Sum, det, degree, rest, int_eq, key_eq, IsWallFunction, SameTo}
 use Rattle.scattering.specs.Wall.{Line, Wall, are_parallel, crosses_to}
 use Rattle.scattering.specs.LocalProduct.{Half, cross, cross_half}
-use Rattle.scattering.proofs.Keys.{key_eq-same}
 use Rattle.scattering.proofs.Lists.{any-false}
+use Rattle.scattering.proofs.Keys.{key_eq-same}
 use Rattle.crossing_theory.specs.Laws.{CrossingKeepsProducts, CrossingKeepsBrackets, CrossingKeepsCenter, CrossingIsUndone, ParallelCrossingsCommute, HighCrossingsCommute}
 use Rattle.crossing_theory.proofs.Keys.{crossing-back}
 use Rattle.crossing_theory.proofs.Translation.{Eq, Eq-trans, Eq-sym, from_Eq, mul-same, coef-is, key_test}

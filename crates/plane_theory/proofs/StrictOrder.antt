@@ -11,7 +11,7 @@ use Rattle.scattering.specs.Series as D
 use Rattle.scattering.specs.Plane.{Point, point_eq, point_before}
 use Rattle.scattering.specs.Wall.{Wall}
 use Rattle.scattering.specs.Completion.{ray_before}
-use Rattle.scattering.proofs.Lists.{Every-at, Every-implies}
+use Rattle.scattering.proofs.Lists.{Every-at, or-out, Every-implies}
 use Rattle.scattering.proofs.Keys.{key_eq-same, key_eq-refl, exp_eq-same, point_eq-same}
 
 is-true : (b : Bool) → IsTrue b → b ≡ true
@@ -65,10 +65,6 @@ powers_before-asym p q h i =
     let a = step p.t1 q.t1 _ _ h i in let b = step p.t2 q.t2 _ _ a.0 a.1 in let c = step p.t3 q.t3 _ _ b.0 b.1 in let d = step p.t4 q.t4 _ _ c.0 c.1 in
     let e = step p.t5 q.t5 _ _ d.0 d.1 in let f = step p.t6 q.t6 _ _ e.0 e.1 in let g = step p.t7 q.t7 _ _ f.0 f.1 in last p.t8 q.t8 g.0 g.1
 
-or-cases : (a b : Bool) → (a || b) ≡ true → (a ≡ true) ⊎ (b ≡ true)
-or-cases true b e = inl refl
-or-cases false b e = inr e
-
 pub and-both : (a b : Bool) → (a && b) ≡ true → (a ≡ true) × (b ≡ true)
 and-both true b e = (refl, e)
 and-both false b e = absurd (cc)
@@ -77,7 +73,7 @@ and-both false b e = absurd (cc)
 module _ {A B : Type 0} (before : A → A → Bool) (same : A → A → Bool) (after : B → B → Bool)
     (asym : (x y : A) → before x y ≡ true → before y x ≡ true → ⊥) (sure : (x y : A) → same x y ≡ true → x ≡ y) (asym' : (x y : B) → after x y ≡ true → after y x ≡ true → ⊥) where
   pub two-asym : (x y : A) (u v : B) → (before x y || (same x y && after u v)) ≡ true → (before y x || (same y x && after v u)) ≡ true → ⊥
-  two-asym x y u v p q = go (or-cases (before x y) _ p) (or-cases (before y x) _ q)
+  two-asym x y u v p q = go (or-out (before x y) _ p) (or-out (before y x) _ q)
     where
       go : (before x y ≡ true) ⊎ ((same x y && after u v) ≡ true) → (before y x ≡ true) ⊎ ((same y x && after v u) ≡ true) → ⊥
       go (inl a) (inl b) = asym x y a b

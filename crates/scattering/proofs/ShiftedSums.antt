@@ -7,7 +7,7 @@ use Rattle.scattering.specs.Series.{Powers, Key, Sum, key_eq, key_mul, unit, one
 use Rattle.scattering.proofs.Ring.{dif-up, dif-pos, dif-add, dif-neg, dif-mul, dif-same}
 use Rattle.scattering.proofs.Pairing.{pairing, pairing-same, pairing-zero, coef-append, coef-minus, skip-zero}
 use Rattle.scattering.proofs.CrossingChanges.{moved, read, coef-extend, extend-respects}
-use Rattle.scattering.proofs.Keys.{key_eq-same}
+use Rattle.scattering.proofs.Keys.{key_eq-same, same-powers}
 
 pub degree-mul : (x u : Key) → degree (key_mul x u) ≡ degree x + degree u
 degree-mul x u = omega arith
@@ -47,9 +47,6 @@ shift-high k j x y u low high = go (nat_le (degree (key_mul x u)) k) refl (key_e
 pub moved-respects : (k j : ℕ) (x y : Key) (g h : Sum) → SameTo j g h → degree y ≤ degree x + j → coef (moved k x (pos 1) g) y ≡ coef (moved k x (pos 1) h) y
 moved-respects k j x y g h same low =
     moved-pairing k x y g ∙ pairing-same (shift k x y) j g h same (λ u high. shift-high k j x y u low high) ∙ sym (moved-pairing k x y h)
-
-same-powers : (p q : Powers) → p.t1 ≡ q.t1 → p.t2 ≡ q.t2 → p.t3 ≡ q.t3 → p.t4 ≡ q.t4 → p.t5 ≡ q.t5 → p.t6 ≡ q.t6 → p.t7 ≡ q.t7 → p.t8 ≡ q.t8 → p ≡ q
-same-powers p q a b c d e f g h = λ i. record { t1 = a i; t2 = b i; t3 = c i; t4 = d i; t5 = e i; t6 = f i; t7 = g i; t8 = h i }
 
 mul-unit : (x : Key) → key_mul x unit ≡ x
 mul-unit x =
