@@ -5,7 +5,7 @@ use Rattle.std.specs.List.{list_any}
 use Rattle.std.proofs.lemmas.Int.{ints}
 use Rattle.scattering.proofs.Ring.{dif-up, dif-add, dif-neg, dif-mul, dif-same}
 use Rattle.scattering.specs.Collections.{In, Every}
-use Rattle.scattering.specs.Series.{Exp, Key, det, degree, int_eq, coef, one, absolute, rest, IsMultiple}
+use Rattle.scattering.specs.Series.{Exp, Key, det, degree, coef, one, absolute, rest, IsMultiple}
 use Rattle.scattering.specs.Plane.{Point}
 use Rattle.scattering.specs.Wall.{Wall, is_on, is_live, are_parallel, starts_at}
 use Rattle.scattering.specs.ActivePoint.{is_special, walls_on}

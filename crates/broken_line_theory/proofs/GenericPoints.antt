@@ -4,7 +4,7 @@ use Rattle.std.specs.Prelude.{ℤ, pos, ◌+ℤ◌, ◌-ℤ◌, ◌*ℤ◌, IsFa
 use Rattle.std.specs.List.{list_any}
 use Rattle.std.proofs.lemmas.Int.{ints}
 use Rattle.scattering.specs.Collections.{In}
-use Rattle.scattering.specs.Series.{det, dot, int_eq}
+use Rattle.scattering.specs.Series.{det, dot}
 use Rattle.scattering.specs.Plane.{Point, difference, point_eq}
 use Rattle.scattering.specs.Wall.{WallKind, Line, Incoming, Outgoing, Wall, allows, is_on, is_live, is_line, are_parallel, starts_at}
 use Rattle.scattering.specs.ActivePoint.{is_special, walls_on}

@@ -7,7 +7,7 @@ use Rattle.scattering.proofs.Pairing.{pairing, pairing-zero, coef-append}
 use Rattle.scattering.proofs.CrossingChanges.{moved}
 use Rattle.scattering.proofs.ShiftedSums.{moved-pairing, shift, moved-respects, degree-mul}
 use Rattle.scattering.specs.Collections.{In, Every}
-use Rattle.scattering.specs.Series.{Exp, Powers, Key, Term, Sum, origin, key_eq, key_mul, degree, coef, mul, z, monomial, Same, SameTo, IsSeries}
+use Rattle.scattering.specs.Series.{Exp, Key, Term, Sum, origin, key_eq, key_mul, degree, coef, mul, z, monomial, Same, SameTo, IsSeries}
 use Rattle.scattering.specs.Plane.{Point, IsPoint}
 use Rattle.scattering.specs.Wall.{Wall, IsWall}
 use Rattle.scattering.specs.ThetaProduct.{BeginsAt, combined, AreThetas, IsFamily}

@@ -1,5 +1,5 @@
 -- The correction at a point exists, and is whole.
-use Rattle.std.proofs.Common.{◌≡◌, ℕ, suc, subst, sym, List, ◌++◌, map, arith, add-one, ap, refl, ◌∙◌, ◌≢◌, [], ◌∷◌, Bool, true, false, inl, inr, ◌+◌, ◌≤◌}
+use Rattle.std.proofs.Common.{◌≡◌, ℕ, suc, subst, sym, List, ◌++◌, arith, add-one, ap, refl, ◌∙◌, ◌≢◌, [], ◌∷◌, Bool, true, false, inl, inr, ◌+◌}
 use Rattle.std.specs.Prelude.{◌*ℤ◌, pos}
 use Rattle.scattering.specs.Collections.{Every, In, EveryPair}
 use Rattle.scattering.specs.Series.{Exp, det, z, key_mul, monomial, coef, SameTo, Key, key_eq}
@@ -13,7 +13,7 @@ use Rattle.crossing_theory.proofs.OtherFunctions.{of_halves}
 use Rattle.crossing_theory.proofs.LocalProductLaws.{auto-carry}
 use Rattle.correction_theory.proofs.LogarithmicDerivative.{flux}
 use Rattle.correction_theory.proofs.Correction.{built, right-everywhere}
-use Rattle.completion_theory.proofs.RaisedDiagram.{lift_wall, lifted, cut-lifted, Given, given-lift, givens, lifted-proper}
+use Rattle.completion_theory.proofs.RaisedDiagram.{lifted, cut-lifted, Given, givens, lifted-proper}
 use Rattle.completion_theory.proofs.LowerOrders.{image-cut}
 use Rattle.completion_theory.proofs.UniqueCompletion.{on_axis}
 use Rattle.completion_theory.specs.Laws.{CorrectionExists, CorrectionIsWhole}
@@ -21,7 +21,7 @@ use Rattle.completion_theory.proofs.UniqueCorrection.{correction_is_unique}
 use Rattle.sum_algebra.proofs.Ring.{nought, ring}
 use Rattle.sum_algebra.proofs.Ring as E
 use Rattle.sum_algebra.proofs.IntegerRing.{ints_ring, ◌:*◌, X}
-use Rattle.scattering.proofs.Lists.{Every-append, Every-mapped, Every-from_In, Every-at, Every-implies}
+use Rattle.scattering.proofs.Lists.{Every-from_In, Every-at, Every-implies}
 use Rattle.scattering.proofs.Keys.{key_eq-same, key_eq-refl}
 
 -- where both images are the identity below degree n + 1

@@ -1,7 +1,6 @@
 -- There is at most one completion.
 use Rattle.std.proofs.Common.{◌≡◌, ℕ, zero, suc, refl, subst, sym, ◌∙◌, ap, List, [], ◌∷◌, ◌++◌, map, Bool, true, false, cond, ◌≤◌, arith, inl, inr}
 use Rattle.std.specs.Prelude.{ℤ, pos, filter, ◌&&◌, ◌+ℤ◌, ◌-ℤ◌, ◌*ℤ◌, neg_ℤ, nat_le}
-use Rattle.std.specs.List.{list_any}
 use native.Mathlib.Decide.{dec_le}
 use Rattle.std.proofs.lemmas.Int.{ints}
 use Rattle.sum_algebra.proofs.Ring.{var, plus, times, minus, nought, ring}

@@ -1,10 +1,8 @@
 -- Walls whose function is 1 aren't seen by a local product.
 use Rattle.std.proofs.Common.{◌≡◌, ◌≢◌, ℕ, refl, subst, sym, ◌∙◌, ap, List, [], ◌∷◌, ◌++◌, map, Bool, true, false, cond, not, arith}
-use Rattle.std.specs.Prelude.{ℤ, pos, negsuc, filter, flat_map, ◌&&◌, ◌||◌, ◌*ℤ◌, ◌+ℤ◌, nat_le}
+use Rattle.std.specs.Prelude.{ℤ, pos, negsuc, filter, flat_map, ◌&&◌, ◌||◌, nat_le}
 use Rattle.std.specs.List.{list_any}
 use Rattle.std.proofs.lemmas.Int.{ints}
-use Rattle.sum_algebra.proofs.Ring.{nought, ring}
-use Rattle.sum_algebra.proofs.IntegerRing.{ints_ring, ◌:+◌, ◌:*◌, X, Y}
 use Rattle.scattering.specs.Collections.{Every, in_order}
 use Rattle.scattering.specs.Series.{Sum, Exp, Term, det, origin, rest, scale, z, monomial}
 use Rattle.scattering.specs.Series as D
@@ -12,7 +10,7 @@ use Rattle.scattering.specs.Plane.{Point, IsDirection}
 use Rattle.scattering.specs.Wall.{Wall, is_live, is_on, starts_at, allows}
 use Rattle.scattering.specs.LocalProduct.{Half, along, carry, cross_half, halves, half_walls, image}
 use Rattle.scattering.proofs.Lists.{Every-filter, Every-flat_map, Every-implies}
-use Rattle.plane_theory.proofs.Directions.{zero-factor, combination, direction-not_origin, scale-not_origin}
+use Rattle.plane_theory.proofs.Directions.{direction-not_origin, scale-not_origin}
 use Rattle.crossing_theory.proofs.Translation.{Eq, Eq-refl, Eq-trans}
 use Rattle.crossing_theory.proofs.HalfWalls.{Proper, small, half, half-respects, dead}
 use Rattle.crossing_theory.proofs.Carrying.{ProperHalf}

@@ -3,9 +3,8 @@ use Rattle.std.proofs.Common.{◌≡◌, ℕ, refl, List, [], ◌∷◌, Bool, t
 use Rattle.std.specs.Prelude.{ℤ, pos, flat_map, nat_le}
 use Rattle.std.specs.List.{list_any}
 use native.Mathlib.Decide.{dec_le}
-use Rattle.std.proofs.lemmas.Int.{ints}
 use Rattle.scattering.specs.Collections.{In, Every, EveryPair}
-use Rattle.scattering.specs.Series.{Sum, Exp, Term, degree, rest, int_eq, det, z, monomial}
+use Rattle.scattering.specs.Series.{Sum, Exp, Term, degree, rest, det, z, monomial}
 use Rattle.scattering.specs.Plane.{Point, turns_before}
 use Rattle.scattering.specs.Wall.{Wall, is_on, crosses_to, are_parallel}
 use Rattle.scattering.specs.LocalProduct.{Half, along, carry, halves, image}

@@ -1,8 +1,7 @@
 -- The order by angle, and sorting a part of a list.
-use Rattle.std.proofs.Common.{◌≡◌, ◌≢◌, zero, suc, refl, subst, sym, ◌∙◌, ap, List, [], ◌∷◌, Bool, true, false, cond, not, ◌≤◌, ◌*◌, arith, inl, inr, ◌⊎◌}
-use Rattle.std.specs.Prelude.{ℤ, pos, negsuc, filter, ◌&&◌, ◌||◌, ◌*ℤ◌, ◌+ℤ◌, ◌-ℤ◌, neg_ℤ, ◌≤ℤ◌, int_lt}
+use Rattle.std.proofs.Common.{◌≡◌, ◌≢◌, refl, subst, sym, ◌∙◌, ap, List, [], ◌∷◌, Bool, true, false, cond, not, arith, inl, inr, ◌⊎◌}
+use Rattle.std.specs.Prelude.{ℤ, pos, filter, ◌&&◌, ◌||◌, ◌*ℤ◌, ◌+ℤ◌, ◌-ℤ◌, neg_ℤ, ◌≤ℤ◌, int_lt}
 use Rattle.std.proofs.lemmas.Int.{ints}
-use lib.IntN.{pos-*ℤ-pos}
 use Rattle.sum_algebra.proofs.Ring.{var, minus, nought, ring}
 use Rattle.sum_algebra.proofs.IntegerRing.{ints_ring, ◌:+◌, ◌:*◌, ◌:-◌, X, Y, Z}
 use Rattle.scattering.specs.Collections.{Every, EveryPair, put, in_order}

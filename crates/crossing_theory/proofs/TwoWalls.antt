@@ -1,4 +1,4 @@
--- two walls: parallel ones commute, and any two modulo high degree; a wall with a term more
+-- Two walls: parallel ones commute, and any two modulo high degree; a wall with a term more.
 use Rattle.std.specs.Prelude.{◌≡◌, refl, ℕ, [], ◌∷◌, ◌++◌, ◌+◌, ◌≤◌}
 use Rattle.std.proofs.Common.{sym, ◌∙◌, ap}
 use lib.IntN.{ℤ, pos, negsuc, ◌+ℤ◌, ◌*ℤ◌, neg_ℤ}

@@ -1,15 +1,13 @@
 -- Directions that tie in the order of angles: positive multiples, and equal where both are combination.
 use Rattle.std.proofs.Common.{◌≡◌, ◌≢◌, refl, sym, ap, ◌∙◌, inl, inr, arith, Bool, true, false}
-use Rattle.std.specs.Prelude.{ℤ, pos, ◌+ℤ◌, ◌-ℤ◌, ◌*ℤ◌, neg_ℤ, ◌≤ℤ◌, IsTrue, nat_abs}
+use Rattle.std.specs.Prelude.{ℤ, pos, ◌+ℤ◌, ◌-ℤ◌, ◌*ℤ◌, neg_ℤ, ◌≤ℤ◌, IsTrue}
 use Rattle.std.proofs.lemmas.Int.{ints}
-use Rattle.std.proofs.lemmas.Nat.Gcd.{same_from_IsGcd}
 use Rattle.scattering.proofs.Ring.{dif-up, dif-pos, dif-add, dif-neg, dif-mul, dif-same}
-use Rattle.scattering.proofs.Bezout.{bezout}
 use Rattle.scattering.specs.Series.{Exp, origin, det, dot}
 use Rattle.scattering.specs.Plane.{IsDirection, is_upper, turns_before}
 use Rattle.plane_theory.proofs.WholeNumbers.{cancel, dif-below, positive, positive_of, follows, follows3, zero_of}
 use Rattle.plane_theory.proofs.Points.{norm-positive}
-use Rattle.plane_theory.proofs.LowestTerms.{at_least, abs-sign}
+use Rattle.plane_theory.proofs.LowestTerms.{at_least}
 use Rattle.plane_theory.proofs.Angles.{IsUpper, upper-out, lower-out, turned, det-turned, turns-in, tie}
 use Rattle.plane_theory.proofs.Directions.{combination}
 

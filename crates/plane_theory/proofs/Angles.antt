@@ -6,7 +6,7 @@ use Rattle.scattering.proofs.Ring.{dif-up, dif-pos, dif-add, dif-neg, dif-mul, d
 use Rattle.scattering.specs.Series.{Exp, origin, det, int_eq}
 use Rattle.scattering.specs.Plane.{is_upper, turns_before}
 use Rattle.plane_theory.proofs.WholeNumbers.{positive, positive_of, sign}
-use Rattle.plane_theory.proofs.PointOrder.{or-and, lt-out}
+use Rattle.plane_theory.proofs.PointOrder.{or-and}
 
 -- upper: the second number is above 0, or 0 with the first above 0;  else both are turned
 abbrev pub IsUpper : Exp → Type 0

@@ -1,12 +1,10 @@
 -- The test of a place on a wall says what the definition says.
-use Rattle.std.proofs.Common.{◌≡◌, ◌≢◌, refl, sym, ap, ◌∙◌, arith, Bool, true}
-use Rattle.std.specs.Prelude.{ℤ, pos, ◌+ℤ◌, ◌*ℤ◌, neg_ℤ, ◌≤ℤ◌, IsTrue, nat_abs, ◌&&◌}
-use Rattle.std.specs.Int.{◌∣◌}
+use Rattle.std.proofs.Common.{◌≡◌, refl, sym, ap, ◌∙◌, arith, true}
+use Rattle.std.specs.Prelude.{ℤ, pos, ◌+ℤ◌, ◌*ℤ◌, neg_ℤ, ◌≤ℤ◌, IsTrue}
 use Rattle.std.proofs.lemmas.Int.{ints}
-use Rattle.std.proofs.lemmas.Nat.Gcd.{dvd-zero, le_of_dvd}
 use Rattle.scattering.proofs.Ring.{dif-up, dif-neg, dif-mul, dif-same}
-use Rattle.scattering.specs.Series.{Exp, origin, det, dot, int_eq}
-use Rattle.scattering.specs.Plane.{IsDirection, difference}
+use Rattle.scattering.specs.Series.{det, dot, int_eq}
+use Rattle.scattering.specs.Plane.{difference}
 use Rattle.scattering.specs.Wall.{WallKind, Line, Incoming, Outgoing, allows, On, is_on}
 use Rattle.scattering.proofs.Lists.{and-in, and-left, and-right}
 use Rattle.scattering.proofs.Keys.{int_eq-same}

@@ -1,6 +1,4 @@
 -- The laws of common points and of the two orders, as they are stated.
-use Rattle.std.proofs.Common.{◌≡◌}
-use Rattle.scattering.specs.Plane.{IsPoint}
 use Rattle.plane_theory.specs.Laws.{CommonPointExists, CommonPointIsUnique, PointOrderIsTransitive, TiedDirectionsAreEqual}
 use Rattle.plane_theory.proofs.CommonPoints.{common, common-unique}
 use Rattle.plane_theory.proofs.PointOrder.{before-trans}

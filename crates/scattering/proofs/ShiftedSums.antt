@@ -3,7 +3,7 @@ use Rattle.std.proofs.Common.{◌≡◌, ℕ, suc, refl, sym, ap, ◌∙◌, ◌
 use Rattle.std.specs.Prelude.{ℤ, pos, ◌+ℤ◌, ◌-ℤ◌, ◌*ℤ◌, neg_ℤ, filter, flat_map, nat_le}
 use Rattle.std.proofs.lemmas.Int.{ints}
 use native.Mathlib.Decide.{dec_le}
-use Rattle.scattering.specs.Series.{Powers, Key, Sum, key_eq, key_mul, unit, one, coef, mul, minus, SameTo, degree}
+use Rattle.scattering.specs.Series.{Key, Sum, key_eq, key_mul, unit, one, coef, mul, minus, SameTo, degree}
 use Rattle.scattering.proofs.Ring.{dif-up, dif-pos, dif-add, dif-neg, dif-mul, dif-same}
 use Rattle.scattering.proofs.Pairing.{pairing, pairing-same, pairing-zero, coef-append, coef-minus, skip-zero}
 use Rattle.scattering.proofs.CrossingChanges.{moved, read, coef-extend, extend-respects}

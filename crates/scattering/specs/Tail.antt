@@ -1,4 +1,8 @@
 -- Reach, and the tails that are traced backwards from a point.
+--     IsReach ws b d n          the least total degree of terms whose exponents sum to d is n
+--     IsTail ws b m q t         t is a tail for m at q, within the limit b
+--     IsComplete m t            its last exponent is m;  backwards turns a broken line into such a tail
+--     tail_weight, tail_before  its weight; the order of tails
 use Rattle.std.specs.Prelude.{Bool, true, false, ◌&&◌, ◌||◌, ◌≡◌, ◌≢◌, ℕ, ◌+◌, ◌*◌, ◌≤◌, IsFalse, List, [], ◌∷◌, reverse}
 use Rattle.scattering.specs.Collections.{In, Every}
 use Rattle.scattering.specs.Series.{exp_eq, exp_before, key_eq, key_before, Exp, Term, origin, exp_add, exp_sub, degree, rest, mass_to}

@@ -1,4 +1,7 @@
 -- The product of two thetas as a family of thetas.
+--     IsFamily ws k l r q a             the family a fits: its sum of a_r·theta_r is the product of the thetas of l and r
+--     Runs ws k q s first d a n         d steps lead to the family a with the running weight n, without a fault
+--     IsProductFault ws k l r q fault   the first fault of the product, or none
 -- A family is one series: its term c·t^P·z^r is the term c·t^P of the series at r.
 use Rattle.std.specs.Prelude.{◌≡◌, ◌≢◌, ℕ, suc, ◌+◌, ◌*◌, ◌-◌, ◌<◌, ◌≤◌, ◌^◌, ◌⊎◌, ◌==◌, IsTrue, List, [], ◌∷◌, ◌++◌, filter, flat_map, nat_abs, pos, Option, Some, None}
 use Rattle.std.specs.Bool.{MatchBool}

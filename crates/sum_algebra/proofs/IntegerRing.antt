@@ -1,9 +1,9 @@
--- the integers as a ring, and trials of `ring`
-use Rattle.std.specs.Prelude.{◌≡◌, refl, ℕ, [], ◌∷◌}
-use Rattle.std.proofs.Common.{sym, ◌∙◌, ap, zero, suc}
-use lib.IntN.{ℤ, pos, one, ◌+ℤ◌, ◌-ℤ◌, ◌*ℤ◌, neg_ℤ, *ℤ_comm, *ℤ-one, +ℤ_assoc, +ℤ_comm, +ℤ_idr, +ℤ_invr}
+-- The integers as a ring, and the variables in which its terms are written.
+use Rattle.std.specs.Prelude.{◌≡◌, refl, [], ◌∷◌}
+use Rattle.std.proofs.Common.{sym, ◌∙◌, ap}
+use lib.IntN.{ℤ, pos, one, ◌+ℤ◌, ◌*ℤ◌, neg_ℤ, *ℤ_comm, *ℤ-one, +ℤ_assoc, +ℤ_comm, +ℤ_idr, +ℤ_invr}
 use Rattle.sum_algebra.proofs.Integers.{*ℤ_assoc, +ℤ-*ℤ}
-use Rattle.sum_algebra.proofs.Ring.{CommRing, Expr, var, plus, times, minus, nought, unit, eval, ring}
+use Rattle.sum_algebra.proofs.Ring.{CommRing, Expr, var, plus, times, minus, unit, ring}
 
 pub *ℤ_one : (m : ℤ) → m *ℤ pos 1 ≡ m
 unfolding one
