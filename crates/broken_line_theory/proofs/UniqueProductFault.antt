@@ -1,6 +1,6 @@
 -- The product of two thetas has one first fault, or none: its steps are determined.
 use Rattle.std.proofs.Common.{◌≡◌, ◌≢◌, ℕ, zero, suc, refl, sym, ap, subst, ◌∙◌, ◌+◌, ◌-◌, ◌*◌, ◌<◌, ◌≤◌, ◌^◌, ◌⊎◌, inl, inr, arith, Bool, true, false, List, [], ◌∷◌}
-use Rattle.std.specs.Prelude.{ℤ, pos, ◌+ℤ◌, ◌-ℤ◌, ◌==◌, IsTrue, Option, Some, None, nat_abs}
+use Rattle.std.specs.Prelude.{ℤ, pos, ◌+ℤ◌, ◌-ℤ◌, ◌==◌, Option, Some, None, nat_abs}
 use Rattle.std.proofs.lemmas.Int.{ints}
 use native.Mathlib.Decide.{dec_le}
 use Rattle.scattering.specs.Collections.{In, Every}
@@ -8,7 +8,7 @@ use Rattle.scattering.specs.Series.{Exp, Key, Sum, Term, origin, exp_eq, exp_bef
 use Rattle.scattering.specs.Plane.{Point, IsPoint}
 use Rattle.scattering.specs.Wall.{Wall, IsWall}
 use Rattle.scattering.specs.Theta.{AskFault, WeightTooLarge, IsAskFault}
-use Rattle.scattering.specs.ThetaProduct.{BeginsAt, combined, IsThetaProduct, IsThetaWeight, of_degree, weight_of, IsNext, Runs, begins, goes, FailsAt, StepsFault, IsProductFault}
+use Rattle.scattering.specs.ThetaProduct.{BeginsAt, combined, IsThetaProduct, IsThetaWeight, of_degree, weight_of, IsNext, AreWeights, BeginWithoutFault, BeginWithFault, IsTooHeavy, Runs, begins, goes, FailsAt, StepsFault, IsProductFault}
 use Rattle.scattering.proofs.Lists.{Every-at, Every-from_In, Every-filter}
 use Rattle.plane_theory.proofs.StrictOrder.{series-unique, coef-own}
 use Rattle.plane_theory.proofs.TotalOrder.{Compared, exp-total}
@@ -35,7 +35,7 @@ module _ (ws : List Wall) (k j : ℕ) (q : Point) (walls : Every (IsWall j) ws) 
       go false e = weight-unique ws n m q v w (rw e at h) (rw e at i)
 
   abbrev Weighs : Sum → (Exp → ℕ) → Type 0
-  Weighs b w = (r : Exp) (i : ℕ) → BeginsAt b r i → IsThetaWeight ws (k - i) r q (w r)
+  Weighs b w = AreWeights ws k q b w
 
   weight_of-same : (v w : Exp → ℕ) (a : Sum) → Every (λ t. v t.0.exp ≡ w t.0.exp) a → weight_of v a ≡ weight_of w a
   weight_of-same v w [] h = refl
@@ -83,7 +83,7 @@ module _ (ws : List Wall) (k j : ℕ) (q : Point) (walls : Every (IsWall j) ws) 
     w : Exp → ℕ
     before : Runs ws k q s first d a n
     next : IsNext ws k q s d a b
-    free : (r : Exp) → BeginsAt b r d → IsAskFault ws (k - d) r q None
+    free : BeginWithoutFault ws k q d b
     weighs : Weighs b w
     light : n + weight_of w (of_degree d b) ≤ 2 ^ 126
     is : total ≡ n + weight_of w (of_degree d b)
@@ -120,6 +120,10 @@ module _ (ws : List Wall) (k j : ℕ) (q : Point) (walls : Every (IsWall j) ws) 
 
   -- ---- faults of the steps
 
+  -- what fails at step d
+  abbrev Fault : ℕ → Sum → ℕ → AskFault → Type 0
+  Fault d b n fault = BeginWithFault ws k q d b fault ⊎ ((fault ≡ WeightTooLarge) × BeginWithoutFault ws k q d b × IsTooHeavy ws k q d b n)
+
   fault-clash : (m : ℕ) (r : Exp) (f : AskFault) → IsAskFault ws m r q (Some f) → IsAskFault ws m r q None → ⊥
   fault-clash m r f h i = none-some f (ask-fault-unique ws m r q None (Some f) i h)
 
@@ -133,8 +137,7 @@ module _ (ws : List Wall) (k j : ℕ) (q : Point) (walls : Every (IsWall j) ws) 
         go i e.1 g h.6
       where
         go : (i : Step s' first d b n) → h.2 ≡ i.n → h.1 ≡ b
-            → ((r : Exp) × BeginsAt h.1 r d × IsAskFault ws (k - d) r q (Some f) × ((r' : Exp) → BeginsAt h.1 r' d → IsTrue (exp_before r' r) → IsAskFault ws (k - d) r' q None))
-            ⊎ ((f ≡ WeightTooLarge) × ((r : Exp) → BeginsAt h.1 r d → IsAskFault ws (k - d) r q None) × ((w : Exp → ℕ) × Weighs h.1 w × (2 ^ 126 < h.2 + weight_of w (of_degree d h.1))))
+            → Fault d h.1 h.2 f
             → ⊥
         go i e g (inl x) = fault-clash (k - d) x.0 f x.2 (i.free x.0 (subst (λ (z : Sum). BeginsAt z x.0 d) g x.1))
         go i e g (inr x) =
@@ -150,10 +153,8 @@ module _ (ws : List Wall) (k j : ℕ) (q : Point) (walls : Every (IsWall j) ws) 
         go c h.6 i.6
       where
         go : h.1 ≡ i.1
-            → ((r : Exp) × BeginsAt h.1 r d × IsAskFault ws (k - d) r q (Some f) × ((r' : Exp) → BeginsAt h.1 r' d → IsTrue (exp_before r' r) → IsAskFault ws (k - d) r' q None))
-            ⊎ ((f ≡ WeightTooLarge) × ((r : Exp) → BeginsAt h.1 r d → IsAskFault ws (k - d) r q None) × ((w : Exp → ℕ) × Weighs h.1 w × (2 ^ 126 < h.2 + weight_of w (of_degree d h.1))))
-            → ((r : Exp) × BeginsAt i.1 r d × IsAskFault ws (k - d) r q (Some g) × ((r' : Exp) → BeginsAt i.1 r' d → IsTrue (exp_before r' r) → IsAskFault ws (k - d) r' q None))
-            ⊎ ((g ≡ WeightTooLarge) × ((r : Exp) → BeginsAt i.1 r d → IsAskFault ws (k - d) r q None) × ((w : Exp → ℕ) × Weighs i.1 w × (2 ^ 126 < i.2 + weight_of w (of_degree d i.1))))
+            → Fault d h.1 h.2 f
+            → Fault d i.1 i.2 g
             → f ≡ g
         go c (inl x) (inl y) = first-of (exp-total x.0 y.0)
           where
