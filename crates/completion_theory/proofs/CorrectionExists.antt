@@ -10,8 +10,8 @@ use Rattle.scattering.specs.Correction.{Lie, ratio_at, IsCorrection, IsWhole, Ra
 use Rattle.crossing_theory.proofs.Translation.{Eq, Eq-trans, to_Eq}
 use Rattle.crossing_theory.proofs.HalfWalls.{Proper, proper}
 use Rattle.crossing_theory.proofs.OtherFunctions.{of_halves}
-use Rattle.crossing_theory.proofs.LocalProductLaws.{auto-carry}
-use Rattle.correction_theory.proofs.LogarithmicDerivative.{flux}
+use Rattle.crossing_theory.proofs.LocalProductLaws.{carry-automorphism}
+use Rattle.correction_theory.proofs.LogarithmicDerivative.{no-residue}
 use Rattle.correction_theory.proofs.Correction.{built, right-everywhere}
 use Rattle.completion_theory.proofs.RaisedDiagram.{lifted, cut-lifted, Given, givens, lifted-proper}
 use Rattle.completion_theory.proofs.LowerOrders.{image-cut}
@@ -29,7 +29,7 @@ pub correction : (n : ℕ) (ws : List Wall) (p : Point) → Every Proper ws → 
 correction n ws p pr ix iy =
     let hs = half_walls ws p in
     let q : Every (λ h. Proper h.wall) hs = of_halves Proper p ws pr in
-    let b = built n (carry (suc n) hs) (auto-carry (suc n) hs q) (flux (suc n) hs q) ix iy in (
+    let b = built n (carry (suc n) hs) (carry-automorphism (suc n) hs q) (no-residue (suc n) hs q) ix iy in (
       b.h,
       record {
         ratios = b.ratios;
@@ -37,7 +37,7 @@ correction n ws p pr ix iy =
         distinct = b.distinct;
         degrees = b.degrees;
         bracket = λ m k i deg.
-            let r = right-everywhere n (carry (suc n) hs) (auto-carry (suc n) hs q) (flux (suc n) hs q) ix iy k deg in
+            let r = right-everywhere n (carry (suc n) hs) (carry-automorphism (suc n) hs q) (no-residue (suc n) hs q) ix iy k deg in
             on_axis (λ m. coef (image ws p (suc n) m) (key_mul k (z m)) *ℤ (ratio_at b.h k).den ≡ (ratio_at b.h k).num *ℤ det k.exp m) r.0 r.1 m i;
       },
       b.whole,

@@ -14,7 +14,7 @@ use Rattle.crossing_theory.proofs.Keys.{crossing-back}
 use Rattle.crossing_theory.proofs.Translation.{Eq, Eq-trans, Eq-sym, from_Eq, mul-same, coef-is, key_test}
 use Rattle.crossing_theory.proofs.HalfWalls.{Proper, proper-by, half, twice}
 use Rattle.crossing_theory.proofs.PassivePoints.{crosses-commute}
-use Rattle.crossing_theory.proofs.LocalProductLaws.{Auto, auto-half, mul, brace, Vanishes, Central}
+use Rattle.crossing_theory.proofs.LocalProductLaws.{IsAutomorphism, half-automorphism, mul, brace, Vanishes, Central}
 use Rattle.crossing_theory.proofs.BracketLaws.{bracket-same}
 use Rattle.sum_algebra.proofs.Coefficients.{indicator}
 
@@ -35,8 +35,8 @@ module _ (k m : ℕ) (d : Exp) (f : Sum) (s : ℤ) (w : IsWallFunction m d f) wh
   at-half : (g : Sum) → cross_half k (half_of d f s) g ≡ cross k d f s g
   at-half g = ap (λ t. cross k d f t g) (twice-negated s)
 
-  auto : Auto k (λ g. cross k d f s g)
-  auto = subst (λ t. Auto k (λ g. cross k d f t g)) (twice-negated s) (auto-half k (half_of d f s) proper-of)
+  auto : IsAutomorphism k (λ g. cross k d f s g)
+  auto = subst (λ t. IsAutomorphism k (λ g. cross k d f t g)) (twice-negated s) (half-automorphism k (half_of d f s) proper-of)
 
 pub keeps-products : CrossingKeepsProducts
 keeps-products k m d f s w g h =

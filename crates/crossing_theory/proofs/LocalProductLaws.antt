@@ -35,7 +35,7 @@ Vanishes k φ = (x : Key) → k < degree x → φ x ≡ pos 0
 abbrev pub Central : (Key → ℤ) → Type 0
 Central φ = (x : Key) → x.exp ≢ origin → φ x ≡ pos 0
 
-pub record Auto (k : ℕ) (θ : Sum → Sum) : Type 0 where
+pub record IsAutomorphism (k : ℕ) (θ : Sum → Sum) : Type 0 where
   pub respects : (f g : Sum) → Eq k f g → Eq k (θ f) (θ g)
   pub products : (f g : Sum) → Eq k (θ (mul f g)) (mul (θ f) (θ g))
   pub brackets : (f g : Sum) → Eq k (θ (brace f g)) (brace (θ f) (θ g))
@@ -55,10 +55,10 @@ Eq-brace k f f' g g' e h = record {
       ∙ sym (pair-bracket keys key_det φ f' g');
 }
 
-pub identity : (k : ℕ) → Auto k (λ f. f)
+pub identity : (k : ℕ) → IsAutomorphism k (λ f. f)
 identity k = record { respects = λ f g e. e; products = λ f g. Eq-refl k _; brackets = λ f g. Eq-refl k _; center = λ φ v c f. refl; onto = λ f. (f, Eq-refl k f) }
 
-pub after : (k : ℕ) (θ η : Sum → Sum) → Auto k θ → Auto k η → Auto k (λ f. η (θ f))
+pub after : (k : ℕ) (θ η : Sum → Sum) → IsAutomorphism k θ → IsAutomorphism k η → IsAutomorphism k (λ f. η (θ f))
 after k θ η a b = record {
   respects = λ f g e. b.respects (θ f) (θ g) (a.respects f g e);
   products = λ f g. Eq-trans k _ (η (mul (θ f) (θ g))) _ (b.respects _ _ (a.products f g)) (b.products (θ f) (θ g));
@@ -122,8 +122,8 @@ module _ (k : ℕ) (d : Exp) (s : ℤ) (f : Sum) (w : C.Wall d f) (φ : Key → 
   pub crossing-still : (g : Sum) → pair φ (crossing k d s f g) ≡ pair φ g
   crossing-still g = pair-bind φ g (image keys k f (inverse keys k f) (turn d s)) ∙ pair-ext _ _ g image-still
 
-pub auto-half : (k : ℕ) (h : Half) → Proper h.wall → Auto k (cross_half k h)
-auto-half k h p = record {
+pub half-automorphism : (k : ℕ) (h : Half) → Proper h.wall → IsAutomorphism k (cross_half k h)
+half-automorphism k h p = record {
   respects = half-respects k h p;
   products = λ f g.
       Eq-trans k _ _ _ (as_crossing k h p (mul f g))
@@ -142,6 +142,6 @@ auto-half k h p = record {
   );
 }
 
-pub auto-carry : (k : ℕ) (hs : List Half) → Every ProperHalf hs → Auto k (carry k hs)
-auto-carry k [] h = identity k
-auto-carry k (g ∷ hs) h = after k (cross_half k g) (carry k hs) (auto-half k g h.0) (auto-carry k hs h.1)
+pub carry-automorphism : (k : ℕ) (hs : List Half) → Every ProperHalf hs → IsAutomorphism k (carry k hs)
+carry-automorphism k [] h = identity k
+carry-automorphism k (g ∷ hs) h = after k (cross_half k g) (carry k hs) (half-automorphism k g h.0) (carry-automorphism k hs h.1)
