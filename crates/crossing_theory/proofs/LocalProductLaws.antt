@@ -1,7 +1,6 @@
 -- A local product keeps sums, products, the bracket and the terms of exponent (0, 0), and has an inverse.
 use Rattle.std.proofs.Common.{◌≡◌, ◌≢◌, ℕ, refl, subst, sym, ◌∙◌, ap, List, [], ◌∷◌, Bool, true, false, ◌<◌, arith}
 use Rattle.std.specs.Prelude.{ℤ, pos, ◌*ℤ◌, neg_ℤ}
-use Rattle.std.proofs.lemmas.Int.{ints}
 use Rattle.sum_algebra.proofs.Ring.{var, plus, times, minus, nought, ring}
 use Rattle.sum_algebra.proofs.Ring as E
 use Rattle.sum_algebra.proofs.IntegerRing.{ints_ring, ◌:+◌, ◌:*◌, ◌:-◌, X, Y, Z}
@@ -15,7 +14,7 @@ use Rattle.sum_algebra.proofs.Bracket.{bracket, pair-bracket}
 use Rattle.scattering.specs.Collections.{Every}
 use Rattle.scattering.specs.Series.{Key, Sum, Exp, degree, det, key_mul, origin, int_eq}
 use Rattle.scattering.specs.LocalProduct.{Half, carry, cross_half}
-use Rattle.scattering.proofs.Keys.{int_eq-same}
+use Rattle.scattering.proofs.Keys.{int_eq-refl, int_eq-same}
 use Rattle.crossing_theory.proofs.Keys.{keys, key_det, Along, turn, crossing, crossing-mul, crossing-bracket, crossing-back, turn-add, turn-along, along-one, along-mul, wall-along, inverse-along}
 use Rattle.crossing_theory.proofs.Keys as C
 use Rattle.crossing_theory.proofs.Translation.{Eq, Eq-refl, Eq-trans, Eq-sym}
@@ -85,11 +84,8 @@ module _ (k : ℕ) (d : Exp) (s : ℤ) (f : Sum) (w : C.Wall d f) where
   image-center : (φ : Key → ℤ) → Vanishes k φ → Central φ → (x : Key) → pair φ (image keys k f (inverse keys k f) (turn d s) x) ≡ φ x
   image-center φ v c x = go (int_eq (turn d s x) (pos 0)) refl
     where
-      int-refl : (y : ℤ) → int_eq y y ≡ true
-      int-refl y = grind (arith, ints)
-
       apart : int_eq (turn d s x) (pos 0) ≡ false → (y : Key) → turn d s y ≡ turn d s x → y.exp ≢ origin
-      apart e y q o = let t : int_eq (turn d s x) (pos 0) ≡ true = subst (λ n. int_eq n (pos 0) ≡ true) q (subst (λ n. int_eq n (pos 0) ≡ true) (sym (turn-origin y o)) (int-refl (pos 0))) in absurd (cc)
+      apart e y q o = let t : int_eq (turn d s x) (pos 0) ≡ true = subst (λ n. int_eq n (pos 0) ≡ true) q (subst (λ n. int_eq n (pos 0) ≡ true) (sym (turn-origin y o)) (int_eq-refl (pos 0))) in absurd (cc)
 
       go : (b : Bool) → int_eq (turn d s x) (pos 0) ≡ b → pair φ (image keys k f (inverse keys k f) (turn d s) x) ≡ φ x
       go true e =
@@ -103,11 +99,8 @@ module _ (k : ℕ) (d : Exp) (s : ℤ) (f : Sum) (w : C.Wall d f) where
 
 -- a test that sees only keys which the crossing doesn't turn
 module _ (k : ℕ) (d : Exp) (s : ℤ) (f : Sum) (w : C.Wall d f) (φ : Key → ℤ) (v : Vanishes k φ) (still : (x : Key) → turn d s x ≢ pos 0 → φ x ≡ pos 0) where
-  int-refl : (y : ℤ) → int_eq y y ≡ true
-  int-refl y = grind (arith, ints)
-
   not_zero : (y : ℤ) → int_eq y (pos 0) ≡ false → y ≢ pos 0
-  not_zero y e q = let t : int_eq y (pos 0) ≡ true = subst (λ n. int_eq n (pos 0) ≡ true) (sym q) (int-refl (pos 0)) in absurd (cc)
+  not_zero y e q = let t : int_eq y (pos 0) ≡ true = subst (λ n. int_eq n (pos 0) ≡ true) (sym q) (int_eq-refl (pos 0)) in absurd (cc)
 
   image-still : (x : Key) → pair φ (image keys k f (inverse keys k f) (turn d s) x) ≡ φ x
   image-still x = go (int_eq (turn d s x) (pos 0)) refl
