@@ -5,12 +5,13 @@ use Rattle.std.specs.List.{list_any}
 use Rattle.std.proofs.lemmas.Int.{ints}
 use Rattle.scattering.proofs.Ring.{dif-up, dif-add, dif-neg, dif-mul, dif-same}
 use Rattle.scattering.specs.Collections.{In, Every}
-use Rattle.scattering.specs.Series.{Exp, Key, det, degree, int_eq, coef, one, absolute, rest, IsMultiple}
+use Rattle.scattering.specs.Series.{Exp, Key, det, degree, coef, one, absolute, rest, IsMultiple}
 use Rattle.scattering.specs.Plane.{Point}
 use Rattle.scattering.specs.Wall.{Wall, is_on, is_live, are_parallel, starts_at}
 use Rattle.scattering.specs.ActivePoint.{is_special, walls_on}
 use Rattle.scattering.specs.BrokenLine.{live_on, across, bend_majorant}
-use Rattle.scattering.proofs.Lists.{or-left, and-left, and-right, Every-implies, any-none, filter-keeps, Every-at, filter-from}
+use Rattle.scattering.proofs.Lists.{any-none, filter-keeps, Every-at, filter-from, and-left, and-right, or-left, Every-implies}
+use Rattle.scattering.proofs.Keys.{int_eq-same}
 use Rattle.broken_line_theory.proofs.Terms.{IsKept, AllKeys, all-one, all-pow, all-product, all-absolute, all-rest, all-coef}
 use Rattle.broken_line_theory.proofs.Bends.{IsTame}
 
@@ -19,9 +20,6 @@ all-three true true true h k l = refl
 all-three true true false h k l = cc
 all-three true false c h k l = cc
 all-three false b c h k l = cc
-
-equal-out : (a b : ℤ) → int_eq a b ≡ true → a ≡ b
-equal-out a b h = grind (arith, ints)
 
 live-out : (ws : List Wall) (p : Point) (u : Wall) → In u (live_on ws p) → In u ws × (is_live u ≡ true) × (is_on u p ≡ true)
 live-out ws p u h = let r = filter-from (λ w. is_live w && is_on w p) ws u h in (r.0, and-left (is_live u) (is_on u p) r.1, and-right (is_live u) (is_on u p) r.1)
@@ -33,7 +31,7 @@ live-parallel ws p u v h i j =
     let f = or-left (list_any (λ u. list_any (λ v. is_live u && is_live v && not (are_parallel u v)) (walls_on ws p)) (walls_on ws p)) (list_any (λ w. starts_at w p && is_live w) ws) h in
     let g = any-none (λ u. list_any (λ v. is_live u && is_live v && not (are_parallel u v)) (walls_on ws p)) (walls_on ws p) f u (filter-keeps (λ w. is_on w p) ws u a.0 a.2) in
     let k = any-none (λ v. is_live u && is_live v && not (are_parallel u v)) (walls_on ws p) g v (filter-keeps (λ w. is_on w p) ws v b.0 b.2) in
-    equal-out (det u.dir v.dir) (pos 0) (all-three (is_live u) (is_live v) (are_parallel u v) k a.1 b.1)
+    int_eq-same (det u.dir v.dir) (pos 0) (all-three (is_live u) (is_live v) (are_parallel u v) k a.1 b.1)
 
 -- ---- keys without powers
 zero-kept : IsKept (λ k. degree k ≡ 0)

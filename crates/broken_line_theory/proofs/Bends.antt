@@ -9,12 +9,10 @@ use Rattle.scattering.specs.Wall.{Wall, IsWall, is_on, is_live, cut_wall, cut_wa
 use Rattle.scattering.specs.BrokenLine.{live_on, across, bend_majorant}
 use Rattle.scattering.specs.Tail.{exp_sum, degree_sum, IsWallTerm, IsReachedBy}
 use Rattle.scattering.proofs.Lists.{Every-append, filter-keeps, Every-from_In, Every-at, filter-from}
+use Rattle.scattering.proofs.Keys.{same-exp}
 use Rattle.broken_line_theory.proofs.Terms.{IsKept, AllKeys, all-pow, all-product, all-absolute, all-rest, all-coef}
 
 -- ---- sums of terms of walls
-same-exp : (u v : Exp) → u.a ≡ v.a → u.b ≡ v.b → u ≡ v
-same-exp u v p q = λ i. record { a = p i; b = q i }
-
 exp-origin : (u : Exp) → exp_add u origin ≡ u
 exp-origin u = same-exp _ _ (omega (arith, ints)) (omega (arith, ints))
 

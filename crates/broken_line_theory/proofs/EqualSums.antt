@@ -61,7 +61,7 @@ coef-mul k (t ∷ f) g y =
     coef-append (moved k t.0 t.1 g) (mul k f g) y
     ∙ plus-same (coef (moved k t.0 t.1 g) y) (coef (mul k f g) y) (t.1 *ℤ coef (moved k t.0 (pos 1) g) y) (pairing (λ x. coef (moved k x (pos 1) g) y) f) (moved-scale k t.0 y t.1 g) (coef-mul k f g y)
 
-times-same : (a b c d : ℤ) → a ≡ c → b ≡ d → a *ℤ b ≡ c *ℤ d
+pub times-same : (a b c d : ℤ) → a ≡ c → b ≡ d → a *ℤ b ≡ c *ℤ d
 times-same a b c d h k = rw (h, k)
 
 pub moved-same : (k : ℕ) (x y : Key) (g h : Sum) → Same g h → coef (moved k x (pos 1) g) y ≡ coef (moved k x (pos 1) h) y

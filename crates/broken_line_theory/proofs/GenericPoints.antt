@@ -4,13 +4,15 @@ use Rattle.std.specs.Prelude.{ℤ, pos, ◌+ℤ◌, ◌-ℤ◌, ◌*ℤ◌, IsFa
 use Rattle.std.specs.List.{list_any}
 use Rattle.std.proofs.lemmas.Int.{ints}
 use Rattle.scattering.specs.Collections.{In}
-use Rattle.scattering.specs.Series.{det, dot, int_eq}
+use Rattle.scattering.specs.Series.{det, dot}
 use Rattle.scattering.specs.Plane.{Point, difference, point_eq}
 use Rattle.scattering.specs.Wall.{WallKind, Line, Incoming, Outgoing, Wall, allows, is_on, is_live, is_line, are_parallel, starts_at}
 use Rattle.scattering.specs.ActivePoint.{is_special, walls_on}
 use Rattle.scattering.specs.BrokenLine.{live_on}
 use Rattle.scattering.specs.Theta.{is_on_live}
-use Rattle.scattering.proofs.Lists.{and-left, and-right, filter-keeps, filter-from}
+use Rattle.scattering.proofs.Lists.{filter-keeps, filter-from, and-in, and-left, and-right, not-true}
+use Rattle.scattering.proofs.Keys.{point_eq-same}
+use Rattle.plane_theory.proofs.PlacesOnWalls.{zero-in}
 
 any-none : {A : Type 0} (f : A → Bool) (xs : List A) → ((x : A) → In x xs → f x ≡ false) → list_any f xs ≡ false
 any-none f [] h = refl
@@ -25,24 +27,6 @@ or-none a b h k = rw (h, k)
 
 and-none : (a b : Bool) → a ≡ false → (a && b) ≡ false
 and-none a b h = rw h
-
-not-true : (b : Bool) → (b ≡ true → ⊥) → b ≡ false
-not-true true h = absurd (h refl)
-not-true false h = refl
-
-equal-out : (a b : ℤ) → int_eq a b ≡ true → a ≡ b
-equal-out a b h = grind (arith, ints)
-
-point-same : (p q : Point) → point_eq p q ≡ true → p ≡ q
-point-same p q h =
-    let r = and-left (int_eq p.x q.x && int_eq p.y q.y) (int_eq p.w q.w) h in
-    let x = equal-out p.x q.x (and-left (int_eq p.x q.x) (int_eq p.y q.y) r) in
-    let y = equal-out p.y q.y (and-right (int_eq p.x q.x) (int_eq p.y q.y) r) in
-    let w = equal-out p.w q.w (and-right (int_eq p.x q.x && int_eq p.y q.y) (int_eq p.w q.w) h) in
-    λ i. record { x = x i; y = y i; w = w i }
-
-zero-in : (a : ℤ) → a ≡ pos 0 → int_eq a (pos 0) ≡ true
-zero-in a h = rw h
 
 allows-zero : (k : WallKind) (a : ℤ) → a ≡ pos 0 → allows k a ≡ true
 allows-zero Line a h = refl
@@ -59,9 +43,6 @@ dot-zero a b x w y = let e : y *ℤ w -ℤ y *ℤ w ≡ pos 0 = omega (arith, in
 pub on-own : (w : Wall) → is_on w w.at ≡ true
 on-own w = rw (zero-in (det w.dir (difference w.at w.at)) (cross-zero w.dir.a w.dir.b w.at.x w.at.w w.at.y)) (allows-zero w.kind (dot w.dir (difference w.at w.at)) (dot-zero w.dir.a w.dir.b w.at.x w.at.w w.at.y))
 
-both : (a b : Bool) → a ≡ true → b ≡ true → (a && b) ≡ true
-both a b h k = rw (h, k)
-
 pub off-plain : (ws : List Wall) (q : Point) → is_on_live ws q ≡ false → IsFalse (is_special ws q)
 off-plain ws q h =
     or-none _ _
@@ -70,10 +51,10 @@ off-plain ws q h =
     (any-none (λ w. starts_at w q && is_live w) ws (λ w i. not-true (starts_at w q && is_live w) (λ e. none-in (live_on ws q) h w (starts w i e))))
   where
     dead : (u : Wall) → In u (walls_on ws q) → is_live u ≡ false
-    dead u i = let r = filter-from (λ w. is_on w q) ws u i in not-true (is_live u) (λ e. none-in (live_on ws q) h u (filter-keeps (λ w. is_live w && is_on w q) ws u r.0 (both (is_live u) (is_on u q) e r.1)))
+    dead u i = let r = filter-from (λ w. is_on w q) ws u i in not-true (is_live u) (λ e. none-in (live_on ws q) h u (filter-keeps (λ w. is_live w && is_on w q) ws u r.0 (and-in (is_live u) (is_on u q) e r.1)))
 
     starts : (w : Wall) → In w ws → (starts_at w q && is_live w) ≡ true → In w (live_on ws q)
     starts w i e =
         let s = and-left (starts_at w q) (is_live w) e in
-        let p : w.at ≡ q = point-same w.at q (and-right (not (is_line w.kind)) (point_eq w.at q) s) in
-        filter-keeps (λ w. is_live w && is_on w q) ws w i (both (is_live w) (is_on w q) (and-right (starts_at w q) (is_live w) e) (subst (λ (r : Point). is_on w r ≡ true) p (on-own w)))
+        let p : w.at ≡ q = point_eq-same w.at q (and-right (not (is_line w.kind)) (point_eq w.at q) s) in
+        filter-keeps (λ w. is_live w && is_on w q) ws w i (and-in (is_live w) (is_on w q) (and-right (starts_at w q) (is_live w) e) (subst (λ (r : Point). is_on w r ≡ true) p (on-own w)))

@@ -1,5 +1,5 @@
 -- Where nothing fails, broken lines are complete tails read backwards.
-use Rattle.std.proofs.Common.{◌≡◌, ◌≢◌, ℕ, refl, sym, ap, subst, ◌∙◌, ◌+◌, ◌≤◌, ◌⊎◌, inl, inr, arith, Bool, true, false, List, [], ◌∷◌, ◌++◌}
+use Rattle.std.proofs.Common.{◌≡◌, ◌≢◌, ℕ, refl, sym, ap, subst, ◌∙◌, ◌+◌, ◌≤◌, ◌⊎◌, inl, inr, arith, List, [], ◌∷◌, ◌++◌}
 use Rattle.std.specs.Prelude.{ℤ, pos, ◌+ℤ◌, ◌-ℤ◌, ◌*ℤ◌, reverse, IsFalse, Option, Some, None}
 use Rattle.std.proofs.lemmas.Int.{ints}
 use Rattle.scattering.specs.Collections.{Every}
@@ -11,6 +11,7 @@ use Rattle.scattering.specs.BrokenLine.{Bend, IsBend, degrees, Reaches, IsStretc
 use Rattle.scattering.specs.Tail.{IsReachedBy, IsInReach, Extends, IsTraced, Tail, IsTail, last, last_point, end_exp, backwards}
 use Rattle.scattering.specs.Theta.{IsHit, IsMet}
 use Rattle.scattering.proofs.Ring.{dif-up, dif-add, dif-neg, dif-mul, dif-same}
+use Rattle.scattering.proofs.Lists.{not-true}
 use Rattle.plane_theory.proofs.Points.{beyond-back, beyond-forth, beyond-from, from-itself}
 use Rattle.plane_theory.proofs.LowestTerms.{from-splits}
 use Rattle.broken_line_theory.proofs.Bends.{IsTame, reached-none, reached-add, bend-reached}
@@ -24,10 +25,6 @@ pub record IsSafe (ws : List Wall) (n : ℕ) (m : Exp) (q : Point) : Type 0 wher
   pub plain : IsFalse (is_special (cut_walls n ws) q)
   pub near : (p : Point) → IsHit ws n m q p → IsNear p
   pub met : (p : Point) → IsMet ws n m q p → ⊥
-
-not-true : (b : Bool) → (b ≡ true → ⊥) → b ≡ false
-not-true true h = absurd (h refl)
-not-true false h = refl
 
 det-origin : (d : Exp) → det d origin ≡ pos 0
 det-origin d = omega (arith, ints)

@@ -11,9 +11,10 @@ use Rattle.scattering.specs.Wall.{Wall, IsWall}
 use Rattle.scattering.specs.BrokenLine.{value}
 use Rattle.scattering.specs.Theta.{IsAskFault, IsTheta, TooManyReach, TooManyTails, PointTooLarge, WeightTooLarge}
 use Rattle.scattering.specs.ThetaProduct.{BeginsAt, combined, AreThetas, IsThetaProduct, IsFamily, IsNext, Runs, begins, goes}
-use Rattle.scattering.proofs.Lists.{Every-at}
 use Rattle.broken_line_theory.proofs.CompleteTails.{free-of, passes, none-some}
-use Rattle.broken_line_theory.proofs.ThetaOfTails.{forwards, is_complete, theta-of-tails}
+use Rattle.broken_line_theory.proofs.ThetaOfTails.{forwards, theta-of-tails}
+use Rattle.scattering.specs.Tail.{is_complete}
+use Rattle.scattering.proofs.Lists.{Every-at}
 use Rattle.broken_line_theory.proofs.UniqueFamily.{AgreeBelow, shared-begin, is-zero, excess-same, key-term}
 use Rattle.broken_line_theory.proofs.UniqueFamily as U
 use Rattle.broken_line_theory.specs.Laws.{StepsEndWithFamily}
@@ -46,7 +47,7 @@ pub record IsReady (ws : List Wall) (k : ℕ) (q : Point) (s : Sum) (d : ℕ) (a
   pub free : (r : Exp) (i : ℕ) → BeginsAt a r i → IsAskFault ws (k - i) r q None
   pub fits : (thetas : Exp → Sum) → AreThetas ws k q a thetas → (y : Key) → degree y < d → degree y ≤ k → coef (combined k thetas a) y ≡ coef s y
 
-next-coef : (a s c : Sum) (y : Key) → coef (a ++ s ++ minus c) y ≡ coef a y +ℤ coef s y -ℤ coef c y
+pub next-coef : (a s c : Sum) (y : Key) → coef (a ++ s ++ minus c) y ≡ coef a y +ℤ coef s y -ℤ coef c y
 next-coef a s c y = coef-append (a ++ s) (minus c) y ∙ join (coef (a ++ s) y) (coef a y) (coef s y) (coef (minus c) y) (coef c y) (coef-append a s y) (coef-minus c y)
   where
     join : (t u v m n : ℤ) → t ≡ u +ℤ v → m ≡ neg_ℤ n → t +ℤ m ≡ u +ℤ v -ℤ n

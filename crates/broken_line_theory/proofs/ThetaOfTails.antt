@@ -7,12 +7,13 @@ use Rattle.scattering.specs.Series.{Exp, origin, exp_eq, exp_add, exp_sub}
 use Rattle.scattering.specs.Plane.{Point, IsPoint}
 use Rattle.scattering.specs.Wall.{Wall, IsWall}
 use Rattle.scattering.specs.BrokenLine.{Bend, IsBrokenLine, value}
-use Rattle.scattering.specs.Tail.{Tail, IsTail, last, backwards, end_exp}
+use Rattle.scattering.specs.Tail.{Tail, IsTail, last, backwards, end_exp, IsComplete, is_complete}
 use Rattle.scattering.specs.Theta.{IsAskFault, IsTheta}
 use Rattle.scattering.proofs.Lists.{Every-filter, filter-keeps, Every-from_In, Every-at, filter-from}
 use Rattle.scattering.proofs.Keys.{exp_eq-same, exp_eq-refl}
 use Rattle.broken_line_theory.proofs.TracedBends.{reverse-cons, sub-add, last-end}
 use Rattle.broken_line_theory.proofs.CompleteTails.{lines-are-tails}
+use Rattle.broken_line_theory.specs.Laws.{CompleteTailsAreLines, BrokenLinesAreListed, ThetaSumsCompleteTails}
 
 -- ---- lists of what has a fact, along a map that tells them apart
 module _ {A B : Type 0} (f : A → B) where
@@ -59,9 +60,6 @@ Lists-filter P t xs l = record {
 abbrev pub forwards : Tail → List Bend
 forwards t = reverse t.bends
 
-abbrev pub is_complete : Exp → Tail → Bool
-is_complete m t = exp_eq (last t.root t.bends) m
-
 end-snoc : (x : Exp) (cs : List Bend) (c : Bend) → end_exp x (cs ++ (c ∷ [])) ≡ exp_add (end_exp x cs) c.key.exp
 end-snoc x [] c = refl
 end-snoc x (d ∷ cs) c = end-snoc (exp_add x d.key.exp) cs c
@@ -104,3 +102,26 @@ module _ (ws : List Wall) (n k : ℕ) (m : Exp) (q : Point) (walls : Every (IsWa
   -- and the theta is the sum of their values
   pub theta-of-tails : (ts : List Tail) → exp_eq m origin ≡ false → Lists (IsTail ws n m q) ts → IsTheta ws n m q (map (value ws n m) (map forwards (filter (is_complete m) ts)))
   theta-of-tails ts ne l = rw ne (map forwards (filter (is_complete m) ts), lines-listed ts l, λ k. refl)
+
+-- ---- the laws
+
+pub complete_tails_are_lines : CompleteTailsAreLines
+complete_tails_are_lines ws n k m q walls point free t = (there, back)
+  where
+    there : IsTail ws n m q t × IsComplete m t → (bends : List Bend) × IsBrokenLine ws n m q bends × (t ≡ backwards m bends)
+    there h = (forwards t, forth ws n k m q walls point free t (h.0, rw h.1 (exp_eq-refl m)), sym (complete-back m t h.1))
+
+    back : (bends : List Bend) × IsBrokenLine ws n m q bends × (t ≡ backwards m bends) → IsTail ws n m q t × IsComplete m t
+    back l =
+        subst (λ (u : Tail). IsTail ws n m q u × IsComplete m u) (sym l.2)
+        ((lines-are-tails ws n k m q walls point free l.0).0 l.1, last-end m l.0)
+
+pub broken_lines_are_listed : BrokenLinesAreListed
+broken_lines_are_listed ws n k m q ts walls point free l = lines-listed ws n k m q walls point free ts l
+
+pub theta_sums_tails : ThetaSumsCompleteTails
+theta_sums_tails ws n k m q ts walls point free moves l = theta-of-tails ws n k m q walls point free ts (not-true (exp_eq m origin) (λ e. moves (exp_eq-same m origin e))) l
+  where
+    not-true : (b : Bool) → (b ≡ true → ⊥) → b ≡ false
+    not-true true h = absurd (h refl)
+    not-true false h = refl

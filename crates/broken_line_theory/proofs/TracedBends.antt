@@ -8,9 +8,7 @@ use Rattle.scattering.specs.Plane.{Point, IsPoint}
 use Rattle.scattering.specs.Wall.{Wall}
 use Rattle.scattering.specs.BrokenLine.{Bend, degrees}
 use Rattle.scattering.specs.Tail.{IsInReach, Extends, IsTraced, last, last_point, end_exp}
-
-same-exp : (u v : Exp) → u.a ≡ v.a → u.b ≡ v.b → u ≡ v
-same-exp u v p q = λ i. record { a = p i; b = q i }
+use Rattle.scattering.proofs.Keys.{same-exp}
 
 pub add-sub : (u v : Exp) → exp_sub (exp_add u v) v ≡ u
 add-sub u v = same-exp _ _ (omega (arith, ints)) (omega (arith, ints))

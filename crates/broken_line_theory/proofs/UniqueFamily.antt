@@ -7,16 +7,17 @@ use Rattle.scattering.proofs.Pairing.{pairing, pairing-zero, coef-append}
 use Rattle.scattering.proofs.CrossingChanges.{moved}
 use Rattle.scattering.proofs.ShiftedSums.{moved-pairing, shift, moved-respects, degree-mul}
 use Rattle.scattering.specs.Collections.{In, Every}
-use Rattle.scattering.specs.Series.{Exp, Powers, Key, Term, Sum, origin, key_eq, key_mul, degree, coef, mul, z, monomial, Same, SameTo, IsSeries}
+use Rattle.scattering.specs.Series.{Exp, Key, Term, Sum, origin, key_eq, key_mul, degree, coef, mul, z, monomial, Same, SameTo, IsSeries}
 use Rattle.scattering.specs.Plane.{Point, IsPoint}
 use Rattle.scattering.specs.Wall.{Wall, IsWall}
 use Rattle.scattering.specs.ThetaProduct.{BeginsAt, combined, AreThetas, IsFamily}
 use Rattle.scattering.proofs.Lists.{Every-at}
-use Rattle.scattering.proofs.Keys.{key_eq-same, same-or-not}
+use Rattle.scattering.proofs.Keys.{key_eq-same, same-or-not, same-powers}
 use Rattle.plane_theory.proofs.WholeNumbers.{sign}
 use Rattle.broken_line_theory.proofs.EqualSums.{agree, pairing-minus, at_key, pairing-at, coef-mul, moved-same, mul-same}
 use Rattle.broken_line_theory.proofs.LeadingMonomial.{theta-unique, theta-leading}
 use Rattle.broken_line_theory.specs.Laws.{FamilyIsUnique}
+use Rattle.broken_line_theory.proofs.EqualSums.{times-same}
 
 -- ---- terms of a sum
 pub key-term : (f : Sum) (x : Key) → coef f x ≢ pos 0 → (t : Term) × In t f × (t.0 ≡ x)
@@ -134,9 +135,6 @@ reading-above k thetas y x lt =
     moved-pairing k (only x) y (thetas x.exp)
     ∙ pairing-zero (shift k (only x) y) (length (thetas x.exp)) (thetas x.exp) (omega arith) (λ u. times-zero (coef (thetas x.exp) u) (shift k (only x) y u) (shift-above k (only x) y u lt))
 
-same-powers : (p q : Powers) → p.t1 ≡ q.t1 → p.t2 ≡ q.t2 → p.t3 ≡ q.t3 → p.t4 ≡ q.t4 → p.t5 ≡ q.t5 → p.t6 ≡ q.t6 → p.t7 ≡ q.t7 → p.t8 ≡ q.t8 → p ≡ q
-same-powers p q a b c d e f g h = λ i. record { t1 = a i; t2 = b i; t3 = c i; t4 = d i; t5 = e i; t6 = f i; t7 = g i; t8 = h i }
-
 only-mul : (x : Key) → key_mul (only x) (z x.exp) ≡ x
 only-mul x =
     let p : (key_mul (only x) (z x.exp)).powers ≡ x.powers = same-powers _ x.powers (omega arith) (omega arith) (omega arith) (omega arith) (omega arith) (omega arith) (omega arith) (omega arith) in
@@ -179,9 +177,6 @@ minus-self a b e = omega (arith, ints, e)
 two-zeros : (a b : ℤ) → a ≡ pos 0 → b ≡ pos 0 → a -ℤ b ≡ pos 0
 two-zeros a b e f = omega (arith, ints, e, f)
 
-both-same : (a b c d : ℤ) → a ≡ c → b ≡ d → a *ℤ b ≡ c *ℤ d
-both-same a b c d h k = rw (h, k)
-
 minus-same : (a b c d : ℤ) → a ≡ c → b ≡ d → a -ℤ b ≡ c -ℤ d
 minus-same a b c d h k = rw (h, k)
 
@@ -210,7 +205,7 @@ module _ (ws : List Wall) (k j : ℕ) (q : Point) (walls : Every (IsWall j) ws) 
           let t = are x.exp i.0 i.2 in
           let u = are' x.exp i.0 (shared-begin a b x.exp d i.0 same (let l = i.1 in omega (arith, l, lt)) i.2) in
           let s = theta-unique ws (k - i.0) x.exp q (thetas x.exp) (others x.exp) t.1 u.1 in
-          both-same (coef a x) (excess k thetas y x) (coef b x) (excess k others y x) (same x lt)
+          times-same (coef a x) (excess k thetas y x) (coef b x) (excess k others y x) (same x lt)
           (minus-same (reading k thetas y x) (at_key y x) (reading k others y x) (at_key y x) (moved-same k (only x) y (thetas x.exp) (others x.exp) s) refl)
 
   -- what a family reads at a degree, less its own coefficient there, depends on what is below

@@ -1,18 +1,33 @@
 -- What is proved here of broken lines, thetas and their products.
-use Rattle.std.specs.Prelude.{◌≡◌, ℕ, ◌+◌, ◌↔◌, List, Option, None}
-use Rattle.scattering.specs.Collections.{Every}
-use Rattle.scattering.specs.Series.{Exp, Sum, Same}
+use Rattle.std.specs.Prelude.{◌≡◌, ℕ, ◌+◌, ◌≢◌, ◌↔◌, List, map, filter, reverse, Option, None}
+use Rattle.scattering.specs.Collections.{Every, Lists}
+use Rattle.scattering.specs.Series.{Exp, Sum, Same, origin}
 use Rattle.scattering.specs.Plane.{Point, IsPoint}
 use Rattle.scattering.specs.Wall.{Wall, IsWall}
-use Rattle.scattering.specs.BrokenLine.{Bend, IsBrokenLine}
-use Rattle.scattering.specs.Tail.{IsTail, backwards}
+use Rattle.scattering.specs.BrokenLine.{Bend, IsBrokenLine, value}
+use Rattle.scattering.specs.Tail.{Tail, IsTail, IsComplete, is_complete, backwards}
 use Rattle.scattering.specs.Theta.{AskFault, IsAskFault, IsTheta}
-use Rattle.scattering.specs.ThetaProduct.{IsThetaProduct, IsFamily, Runs}
+use Rattle.scattering.specs.ThetaProduct.{IsThetaProduct, IsFamily, Runs, IsProductFault}
 
 -- where nothing fails, the broken lines are the complete tails
 abbrev pub LinesAreTails : Type 0
 LinesAreTails = (ws : List Wall) (n k : ℕ) (m : Exp) (q : Point) → Every (IsWall k) ws → IsPoint q → IsAskFault ws n m q None
     → (bends : List Bend) → IsBrokenLine ws n m q bends ↔ IsTail ws n m q (backwards m bends)
+
+-- a complete tail is a broken line read backwards, and the other way round
+abbrev pub CompleteTailsAreLines : Type 0
+CompleteTailsAreLines = (ws : List Wall) (n k : ℕ) (m : Exp) (q : Point) → Every (IsWall k) ws → IsPoint q → IsAskFault ws n m q None
+    → (t : Tail) → (IsTail ws n m q t × IsComplete m t) ↔ ((bends : List Bend) × IsBrokenLine ws n m q bends × (t ≡ backwards m bends))
+
+-- so a list of all tails, each once, gives one of all broken lines, each once
+abbrev pub BrokenLinesAreListed : Type 0
+BrokenLinesAreListed = (ws : List Wall) (n k : ℕ) (m : Exp) (q : Point) (ts : List Tail) → Every (IsWall k) ws → IsPoint q → IsAskFault ws n m q None
+    → Lists (IsTail ws n m q) ts → Lists (IsBrokenLine ws n m q) (map (λ t. reverse t.bends) (filter (is_complete m) ts))
+
+-- and the theta is the sum of their values
+abbrev pub ThetaSumsCompleteTails : Type 0
+ThetaSumsCompleteTails = (ws : List Wall) (n k : ℕ) (m : Exp) (q : Point) (ts : List Tail) → Every (IsWall k) ws → IsPoint q → IsAskFault ws n m q None → m ≢ origin
+    → Lists (IsTail ws n m q) ts → IsTheta ws n m q (map (value ws n m) (map (λ t. reverse t.bends) (filter (is_complete m) ts)))
 
 -- the first fault is one
 abbrev pub AskFaultIsUnique : Type 0
@@ -33,3 +48,7 @@ FamilyIsUnique = (ws : List Wall) (n k : ℕ) (l r : Exp) (q : Point) (a b : Sum
 -- steps that end without a fault end with it
 abbrev pub StepsEndWithFamily : Type 0
 StepsEndWithFamily = (ws : List Wall) (n k : ℕ) (l r : Exp) (q : Point) (s a : Sum) (first w : ℕ) → Every (IsWall k) ws → IsPoint q → IsThetaProduct ws n l r q s → Runs ws n q s first (n + 1) a w → IsFamily ws n l r q a
+
+-- the product of two thetas has one first fault, or none
+abbrev pub ProductFaultIsUnique : Type 0
+ProductFaultIsUnique = (ws : List Wall) (n k : ℕ) (l r : Exp) (q : Point) (f g : Option AskFault) → Every (IsWall k) ws → IsPoint q → IsProductFault ws n l r q f → IsProductFault ws n l r q g → f ≡ g

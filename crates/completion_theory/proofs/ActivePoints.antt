@@ -1,14 +1,12 @@
 -- What makes a point active, and which points an order makes active.
-use Rattle.std.proofs.Common.{◌≡◌, ◌≢◌, ℕ, suc, refl, subst, sym, ◌∙◌, ap, List, ◌++◌, map, Bool, true, false, cond, not, ◌≤◌, ◌+◌, arith, add-one, inl, inr, ◌⊎◌, [], ◌∷◌}
-use Rattle.std.specs.Prelude.{ℤ, pos, nat_lt, ◌&&◌, ◌||◌, filter, nat_le}
+use Rattle.std.proofs.Common.{◌≡◌, ◌≢◌, ℕ, suc, refl, subst, sym, ◌∙◌, ap, List, map, Bool, true, false, not, ◌≤◌, ◌+◌, arith, add-one, inl, inr, ◌⊎◌, [], ◌∷◌}
+use Rattle.std.specs.Prelude.{pos, nat_lt, ◌&&◌, ◌||◌, filter, nat_le}
 use Rattle.std.specs.List.{list_any}
 use Rattle.scattering.specs.Collections.{In, Every}
 use Rattle.scattering.specs.Series.{Sum, Term, degree, rest, cut, key_eq, unit, int_eq, det, dot}
 use Rattle.scattering.specs.Plane.{Point, point_eq, difference}
-use Rattle.scattering.specs.Wall.{Line, Incoming, Outgoing, Wall, WallKind, IsWall, allows, is_on, is_live, is_line, starts_at, are_parallel, crosses_to, has_term_to, cut_wall, cut_walls, Diagram, walls}
+use Rattle.scattering.specs.Wall.{Line, Incoming, Outgoing, Wall, WallKind, allows, is_on, is_live, is_line, are_parallel, crosses_to, has_term_to, cut_wall, cut_walls, Diagram, walls}
 use Rattle.scattering.specs.ActivePoint.{is_active, is_incoming, walls_on, begins_at, crosses_at, is_newly_active}
-use Rattle.scattering.proofs.Lists.{any-true, any-some, or-out, and-in, and-left, and-right, not-out, filter-keeps, filter-from, In-map, In-mapped, In-left, In-right, In-append, Every-at, Every-implies}
-use Rattle.scattering.proofs.Keys.{point_eq-same}
 use Rattle.correction_theory.proofs.ReducedRays.{live-term}
 use Rattle.crossing_theory.proofs.HalfWalls.{Proper, proper}
 use Rattle.completion_theory.proofs.RaisedDiagram.{lift_wall, lifted, lifted-proper, Given, givens}
@@ -18,6 +16,9 @@ use Rattle.completion_theory.proofs.UniqueCorrection.{rays_start_at_active_point
 use Rattle.completion_theory.specs.Laws.{ActivePointsGrow, AddedTermsActivateNothing, ActivePointsOfNextOrder, LiveRaysStartAtActivePoints}
 use Rattle.scattering.specs.Completion.{lowered}
 use Rattle.scattering.specs.Correction.{raised}
+use Rattle.scattering.proofs.Lists.{any-true, any-some, filter-keeps, filter-from, In-map, In-append, Every-at, or-first, or-second, or-out, and-in, and-left, and-right, bool_iff, not-out, In-mapped, In-left, In-right, Every-implies}
+use Rattle.scattering.proofs.Keys.{point_eq-same}
+use Rattle.completion_theory.proofs.RayStarts.{nat_le-yes}
 
 -- ---- the two ways to be active
 
@@ -46,9 +47,6 @@ pub record EntersAt (k : ℕ) (ws : List Wall) (p : Point) : Type 0 where
   pub t_in : In t (rest w.function)
   pub low : degree t.0 ≤ k
 
-nat_le-out : (d k : ℕ) → nat_le d k ≡ true → d ≤ k
-nat_le-out d k e = grind arith
-
 nat_le-in : (d k : ℕ) → d ≤ k → nat_le d k ≡ true
 nat_le-in d k e = grind arith
 
@@ -64,26 +62,32 @@ active-out k ws p e = go (or-out (list_any (λ u. list_any (crosses_to k u) (wal
         let s = any-some (λ (s : Term). list_any (λ (t : Term). nat_le (degree s.0 + degree t.0) k) (rest v.0.function)) (rest u.0.function) (and-right (not (are_parallel u.0 v.0)) _ v.2) in
         let t = any-some (λ (t : Term). nat_le (degree s.0.0 + degree t.0) k) (rest v.0.function) s.2 in
         inl (record {
-          u = u.0; v = v.0; u_in = a.0; v_in = b.0; u_on = a.1; v_on = b.1;
+          u = u.0;
+          v = v.0;
+          u_in = a.0;
+          v_in = b.0;
+          u_on = a.1;
+          v_on = b.1;
           across = not-out (are_parallel u.0 v.0) (and-left (not (are_parallel u.0 v.0)) _ v.2);
-          s = s.0; t = t.0; s_in = s.1; t_in = t.1; low = nat_le-out (degree s.0.0 + degree t.0.0) k t.2;
+          s = s.0;
+          t = t.0;
+          s_in = s.1;
+          t_in = t.1;
+          low = nat_le-yes (degree s.0.0 + degree t.0.0) k t.2;
         })
     go (inr h) =
         let w = any-some (λ w. is_incoming w.kind && point_eq w.at p && has_term_to k w) ws h in
         let t = any-some (λ (t : Term). nat_le (degree t.0) k) (rest w.0.function) (and-right (is_incoming w.0.kind && point_eq w.0.at p) (has_term_to k w.0) w.2) in
         let g = and-left (is_incoming w.0.kind && point_eq w.0.at p) (has_term_to k w.0) w.2 in
         inr (record {
-          w = w.0; w_in = w.1; incoming = and-left (is_incoming w.0.kind) (point_eq w.0.at p) g; at = and-right (is_incoming w.0.kind) (point_eq w.0.at p) g;
-          t = t.0; t_in = t.1; low = nat_le-out (degree t.0.0) k t.2;
+          w = w.0;
+          w_in = w.1;
+          incoming = and-left (is_incoming w.0.kind) (point_eq w.0.at p) g;
+          at = and-right (is_incoming w.0.kind) (point_eq w.0.at p) g;
+          t = t.0;
+          t_in = t.1;
+          low = nat_le-yes (degree t.0.0) k t.2;
         })
-
-or-first : (a b : Bool) → a ≡ true → (a || b) ≡ true
-or-first true b e = refl
-or-first false b e = absurd (cc)
-
-or-second : (a b : Bool) → b ≡ true → (a || b) ≡ true
-or-second true b e = refl
-or-second false b e = e
 
 pub active-in : (k : ℕ) (ws : List Wall) (p : Point) → CrossesAt k ws p ⊎ EntersAt k ws p → is_active k ws p ≡ true
 active-in k ws p (inl h) =
@@ -135,17 +139,29 @@ active-covered n ws us p pr cover e = active-in (suc n) us p (go (active-out (su
         let d = cover h.v h.t h.v_in h.t_in (inl (omega (arith, l, a))) in
         let x = c.dir in let y = d.dir in
         inl (record {
-          u = c.wall; v = d.wall; u_in = c.listed; v_in = d.listed;
+          u = c.wall;
+          v = d.wall;
+          u_in = c.listed;
+          v_in = d.listed;
           u_on = same-place h.u c.wall p c.kind c.at c.dir ∙ h.u_on;
           v_on = same-place h.v d.wall p d.kind d.at d.dir ∙ h.v_on;
           across = (λ i. int_eq (det (x i) (y i)) (pos 0)) ∙ h.across;
-          s = h.s; t = h.t; s_in = c.term; t_in = d.term; low = h.low;
+          s = h.s;
+          t = h.t;
+          s_in = c.term;
+          t_in = d.term;
+          low = h.low;
         })
     go (inr h) =
         let c = cover h.w h.t h.w_in h.t_in (inr (h.incoming, h.low)) in
         inr (record {
-          w = c.wall; w_in = c.listed; incoming = ap is_incoming c.kind ∙ h.incoming; at = ap (λ (q : Point). point_eq q p) c.at ∙ h.at;
-          t = h.t; t_in = c.term; low = h.low;
+          w = c.wall;
+          w_in = c.listed;
+          incoming = ap is_incoming c.kind ∙ h.incoming;
+          at = ap (λ (q : Point). point_eq q p) c.at ∙ h.at;
+          t = h.t;
+          t_in = c.term;
+          low = h.low;
         })
 
 -- ---- terms of functions that are cut
@@ -159,7 +175,7 @@ pub cut-from : (n : ℕ) (f : Sum) (t : Term) → In t (rest (cut n f)) → In t
 cut-from n f t i =
     let j = filter-from (λ (t : Term). not (key_eq t.0 unit)) (cut n f) t i in
     let l = filter-from (λ (t : Term). nat_le (degree t.0) n) f t j.0 in
-    (filter-keeps (λ (t : Term). not (key_eq t.0 unit)) f t l.0 j.1, nat_le-out (degree t.0) n l.1)
+    (filter-keeps (λ (t : Term). not (key_eq t.0 unit)) f t l.0 j.1, nat_le-yes (degree t.0) n l.1)
 
 -- a live wall has a term
 live-of : (w : Wall) (t : Term) → In t (rest w.function) → is_live w ≡ true
@@ -283,14 +299,9 @@ module _ (n : ℕ) (given rays : List Wall) (out : Every (λ r. r.kind ≡ Outgo
               clash : false ≡ true → ⊥
               clash q = cc
 
-  bool-same : (a b : Bool) → (a ≡ true → b ≡ true) → (b ≡ true → a ≡ true) → a ≡ b
-  bool-same true b f g = sym (f refl)
-  bool-same false true f g = g refl
-  bool-same false false f g = refl
-
   pub same-active : (p : Point) → Every Proper (before n given rays) → Every Proper (beyond n given rays) → is_active (suc n) (beyond n given rays) p ≡ is_active (suc n) (before n given rays) p
   same-active p a b =
-      bool-same _ _
+      bool_iff _ _
       (active-covered n (beyond n given rays) (before n given rays) p b later-covered)
       (active-covered n (before n given rays) (beyond n given rays) p a earlier-covered)
 
@@ -403,7 +414,11 @@ live_rays_start_at_active_points given n m e r p le hg hk c i live s = which (In
         let enters : is_incoming u.0.kind ≡ true = incoming-of u.0.kind (ap (λ (k : WallKind). not (is_line k)) (sym a.kind ∙ ap (λ (w : Wall). w.kind) (sym u.2)) ∙ and-left (not (is_line r.kind)) (point_eq r.at p) s) (Every-at _ given u.0 hk u.1) in
         active-in (n + 1) (lifted n (n + 1) given e.rays) p
         (inr (record {
-          w = r; w_in = i; at = at; t = t.0; t_in = t.1;
+          w = r;
+          w_in = i;
+          at = at;
+          t = t.0;
+          t_in = t.1;
           incoming = ap is_incoming (ap (λ (w : Wall). w.kind) u.2 ∙ a.kind) ∙ enters;
           low = low-of u.0 t.0 (lift-from n (n + 1) u.0 t.0 (subst (λ (w : Wall). In t.0 (rest w.function)) u.2 t.1));
         }))

@@ -1,15 +1,14 @@
 -- The active points can be listed in order, so the list of the corrections at all of them exists.
-use Rattle.std.proofs.Common.{◌≡◌, ◌≢◌, ℕ, suc, refl, subst, sym, ◌∙◌, ap, List, [], ◌∷◌, ◌++◌, map, Bool, true, false, ◌≤◌, ◌+◌, arith, add-one, inl, inr, ◌⊎◌}
-use Rattle.std.specs.Prelude.{ℤ, pos, filter, IsTrue, ◌&&◌}
+use Rattle.std.proofs.Common.{◌≡◌, ◌≢◌, ℕ, refl, subst, sym, ap, List, [], ◌∷◌, ◌++◌, map, Bool, true, false, ◌+◌, inl, inr, ◌⊎◌}
+use Rattle.std.specs.Prelude.{ℤ, pos, filter, IsTrue}
 use Rattle.scattering.specs.Collections.{In, Every, EveryPair}
-use Rattle.scattering.specs.Series.{Exp, det, int_eq}
-use Rattle.scattering.specs.Plane.{Point, IsPoint, point_before, difference, point_eq}
-use Rattle.scattering.specs.Wall.{Wall, Diagram, IsWall, IsInitial, walls, is_on, are_parallel, allows}
-use Rattle.scattering.specs.Completion.{IsCompletion}
-use Rattle.scattering.specs.ActivePoint.{is_active, is_incoming}
-use Rattle.scattering.specs.Correction.{Lie, IsCorrection, IsWhole, Corrections, AreCorrections, raised}
+use Rattle.scattering.specs.Series.{det, int_eq}
+use Rattle.scattering.specs.Plane.{Point, IsPoint, point_before, difference}
+use Rattle.scattering.specs.Wall.{Wall, IsWall, walls, is_on, are_parallel}
+use Rattle.scattering.specs.ActivePoint.{is_active}
+use Rattle.scattering.specs.Correction.{Lie, IsCorrection, IsWhole, Corrections, raised}
+use Rattle.scattering.proofs.Lists.{Every-from_In, Every-at, Every-append, Every-filter, filter-keeps, filter-from, and-left, In-mapped, In-left, In-right, Every-implies}
 use Rattle.scattering.proofs.Keys.{int_eq-same, point_eq-same}
-use Rattle.scattering.proofs.Lists.{Every-from_In, Every-at, Every-implies, Every-append, Every-filter, In-mapped, In-left, In-right, In-append, In-map, filter-keeps, filter-from, and-left}
 use Rattle.plane_theory.proofs.PointOrder.{before-total, before-trans}
 use Rattle.plane_theory.proofs.CommonPoints.{IsCommon, common, common-unique}
 use Rattle.completion_theory.proofs.RaisedDiagram.{lift_wall, lifted}

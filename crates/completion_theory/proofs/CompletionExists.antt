@@ -1,8 +1,6 @@
 -- Each order has a completion: order 0 has one, and each gives the next.
-use Rattle.std.proofs.Common.{◌≡◌, ◌≢◌, ℕ, zero, suc, refl, subst, sym, ◌∙◌, ap, List, [], ◌∷◌, ◌≤◌, ◌+◌, arith, add-one}
-use Rattle.scattering.specs.Collections.{In, Every, EveryPair}
-use Rattle.scattering.specs.Series.{degree, IsSeries, IsWallFunction, origin}
-use Rattle.scattering.specs.Plane.{IsPoint}
+use Rattle.std.proofs.Common.{◌≡◌, ℕ, zero, suc, subst, List, ◌≤◌, ◌+◌, arith, add-one}
+use Rattle.scattering.specs.Collections.{Every}
 use Rattle.scattering.specs.Wall.{Wall, Diagram, IsWall, walls}
 use Rattle.scattering.specs.Completion.{IsCompletion}
 use Rattle.scattering.specs.Correction.{Corrections, IsWhole, AreCorrections, AreMergeable, raised}
@@ -46,5 +44,5 @@ completion_exists given (suc n) m le hg hk =
         let l : n + 1 ≤ m = omega (arith, le) in
         let cs = corrections_exist given n m e l hg hk c in
         let d = merged_diagram_exists given (n + 1) e cs.0 (omega arith) c.outgoing (Every-implies _ _ e.rays (raise-wall n (n + 1) (omega arith)) c.proper) c.reduced
-            (mergeable (walls (raised given n e)) (n + 1) cs.0 cs.1 cs.2) in
+        (mergeable (walls (raised given n e)) (n + 1) cs.0 cs.1 cs.2) in
         (d.0, subst (λ k. IsCompletion given k d.0) (add-one n) (step_completes given n m e d.0 cs.0 l hg hk c cs.1 d.1))

@@ -8,7 +8,7 @@ use Rattle.scattering.specs.Plane.{Point, IsDirection}
 use Rattle.scattering.specs.Wall.{Outgoing, Wall, IsWall, is_live, cut_wall, cut_walls, walls}
 use Rattle.scattering.specs.LocalProduct.{image, axis_x, axis_y}
 use Rattle.scattering.specs.Completion.{ray_before, IsReduced, lowered}
-use Rattle.scattering.proofs.Lists.{Every-implies, Every-append, Every-filter, pairs-filter, map-append, filters-every}
+use Rattle.scattering.proofs.Lists.{Every-append, Every-filter, pairs-filter, map-append, filters-every, Every-implies}
 use Rattle.crossing_theory.proofs.Translation.{Eq, Eq-trans, Eq-sym, to_Eq, from_Eq, cut-same}
 use Rattle.crossing_theory.proofs.HalfWalls.{Proper, proper}
 use Rattle.crossing_theory.proofs.OtherFunctions.{image-refit, Fits}

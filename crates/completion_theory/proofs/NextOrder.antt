@@ -19,10 +19,10 @@ use Rattle.scattering.specs.Completion.{IsCompletion}
 use Rattle.scattering.specs.ActivePoint.{is_incoming, is_active}
 use Rattle.scattering.specs.Correction.{IsRatio, Lie, ratio_at, IsCorrection, Corrections, IsAdded, IsMerged, AreCorrections, ray_coef}
 use Rattle.scattering.proofs.Pairing.{coef-append}
-use Rattle.scattering.proofs.Lists.{Every-implies, Every-append, Every-filter, Every-at, Every-mapped}
-use Rattle.scattering.proofs.Keys.{key_eq-same, point_eq-same, point_eq-refl, origin-case, key_eq-apart}
-use Rattle.correction_theory.proofs.StrictOrder.{coef-none}
-use Rattle.plane_theory.proofs.Directions.{det-scale, zero-factor, positive-not, Multiple, as_multiple}
+use Rattle.scattering.proofs.Lists.{Every-filter, Every-at, Every-implies}
+use Rattle.scattering.proofs.Keys.{key_eq-same, point_eq-refl, origin-case, key_eq-apart, point_eq-same}
+use Rattle.plane_theory.proofs.Directions.{det-scale, zero-factor, positive-not, Multiple, as_multiple, direction-not_origin, scale-not_origin}
+use Rattle.plane_theory.proofs.StrictOrder.{coef-none}
 use Rattle.crossing_theory.proofs.Translation.{Eq, from_Eq, key_test, coef-is}
 use Rattle.crossing_theory.proofs.Keys.{keys}
 use Rattle.crossing_theory.proofs.HalfWalls.{Proper, proper}
@@ -32,11 +32,11 @@ use Rattle.crossing_theory.proofs.CutFunctions.{base, tops, added, one_le, grows
 use Rattle.correction_theory.proofs.RayGains.{less, less-back, ray-gains, coef-gain, tops-coef}
 use Rattle.correction_theory.proofs.ReducedRays.{rays-unique}
 use Rattle.completion_theory.proofs.RayStarts.{initial-gain}
-use Rattle.completion_theory.proofs.RaisedDiagram.{cut-cut, lift_wall, lifted, cut-lifted, Given, given-lift, givens, passive-image, lifted-proper}
-use Rattle.crossing_theory.proofs.LiveWalls.{scale-not_origin, direction-not_origin}
+use Rattle.completion_theory.proofs.RaisedDiagram.{cut-cut, lift_wall, lifted, cut-lifted, Given, givens, passive-image, lifted-proper}
 use Rattle.completion_theory.proofs.LowerOrders.{image-cut, directed-cut, every-wall-cut, every-outgoing, reduced-lower}
 use Rattle.completion_theory.proofs.UniqueCompletion.{image-next, on_axis, ray_coef-live, ray_coef-cut, ray_coef-high}
 use Rattle.completion_theory.specs.Laws.{NextOrderCompletes}
+use Rattle.plane_theory.proofs.StrictOrder.{bool_cases}
 
 -- ---- what is added at low degrees and at exponent (0, 0)
 
@@ -162,10 +162,6 @@ directed-lift n j w h = go (is_incoming w.kind) refl
     go : (b : Bool) → is_incoming w.kind ≡ b → IsDirection (lift_wall n j w).dir
     go true e = rw e h
     go false e = rw e h
-
-bool-case : (b : Bool) → (b ≡ true) ⊎ (b ≡ false)
-bool-case true = inl refl
-bool-case false = inr refl
 
 degree-monomial : (m : Exp) (x : Key) → 1 ≤ degree x → coef (monomial (z m)) x ≡ pos 0
 degree-monomial m x le = ap (λ (b : Bool). cond b (pos 1) (pos 0) +ℤ pos 0) (key_eq-apart (z m, pos 1) x (λ e. let d : 0 ≡ degree x = e in omega (arith, d, le)))
@@ -302,7 +298,7 @@ module _ (given : List Wall) (n k : ℕ) (le : suc n ≤ k) (hg : Every (IsWall 
             (a.is ∙ ap (λ g. neg_ℤ (pos g *ℤ (ratio_at a.h (less x m)).num)) g)
 
     at-top : (m : Exp) → Axis m → (x : Key) → degree x ≡ suc n → coef (image ws p (suc n) m) x +ℤ coef (added n m p e'.rays) x ≡ pos 0
-    at-top m i x deg = go (bool-case (is_active (suc n) ws p))
+    at-top m i x deg = go (bool_cases (is_active (suc n) ws p))
       where
         go : (is_active (suc n) ws p ≡ true) ⊎ (is_active (suc n) ws p ≡ false) → coef (image ws p (suc n) m) x +ℤ coef (added n m p e'.rays) x ≡ pos 0
         go (inl t) = at-active t m i x deg

@@ -8,6 +8,7 @@ use Rattle.scattering.specs.Plane.{Point, IsDirection}
 use Rattle.scattering.specs.Wall.{Wall, IsWall, is_live, cut_wall, cut_walls}
 use Rattle.scattering.specs.LocalProduct.{image, axis_x, axis_y}
 use Rattle.scattering.specs.Completion.{IsCompletion}
+use Rattle.scattering.proofs.Lists.{Every-implies}
 use Rattle.crossing_theory.proofs.Translation.{Eq, from_Eq}
 use Rattle.completion_theory.proofs.LowerOrders.{directed-cut}
 use Rattle.crossing_theory.proofs.HalfWalls.{Proper}
@@ -44,16 +45,12 @@ none (t ∷ f) h = go (key_eq t.0 unit) refl (nat_le (degree t.0) 0) refl (none 
     go false e true d ih = absurd (clash (degree t.0) (subst (Every High) (filter-true (λ u. not (key_eq u.0 unit)) t f (ap not e)) h).0 d)
     go false e false d ih = ap rest (filter-false (λ u. nat_le (degree u.0) 0) t f d) ∙ ih (subst (Every High) (filter-true (λ u. not (key_eq u.0 unit)) t f (ap not e)) h).1
 
-firsts : {A : Type 0} (P Q : A → Type 0) (xs : List A) → ((x : A) → P x → Q x) → Every P xs → Every Q xs
-firsts P Q [] g h = tt
-firsts P Q (x ∷ xs) g h = (g x h.0, firsts P Q xs g h.1)
-
 dead : (m : ℕ) (ws : List Wall) → Every (IsWall m) ws → filter is_live (cut_walls 0 ws ++ []) ≡ []
 dead m [] h = refl
 dead m (w ∷ ws) h = go (is_live (cut_wall 0 w)) refl (dead m ws h.1)
   where
     off : is_live (cut_wall 0 w) ≡ false
-    off = ap (λ (f : Sum). list_any (λ t. true) f) (none w.function (firsts _ High (rest w.function) (λ t q. q.0) h.0.function.others))
+    off = ap (λ (f : Sum). list_any (λ t. true) f) (none w.function (Every-implies _ High (rest w.function) (λ t q. q.0) h.0.function.others))
 
     go : (b : Bool) → is_live (cut_wall 0 w) ≡ b → filter is_live (cut_walls 0 ws ++ []) ≡ [] → filter is_live (cut_walls 0 (w ∷ ws) ++ []) ≡ []
     go true e ih = absurd (apart (sym off ∙ e))

@@ -10,7 +10,7 @@ use Rattle.scattering.specs.Wall.{WallKind, Line, Incoming, Outgoing, Wall, IsWa
 use Rattle.scattering.specs.LocalProduct.{image, axis_x, axis_y, IsConsistentAt}
 use Rattle.scattering.specs.Completion.{IsReduced}
 use Rattle.scattering.specs.ActivePoint.{is_incoming, is_active, walls_on}
-use Rattle.scattering.proofs.Lists.{or-left, or-right, and-right, Every-implies, Every-append, any-weaken, any-none, filter-keeps, Every-from_In, Every-at, any-false, In-map, filter-from, map-append, Every-mapped}
+use Rattle.scattering.proofs.Lists.{Every-append, any-weaken, any-none, filter-keeps, Every-from_In, Every-at, any-false, In-map, filter-from, map-append, Every-mapped, and-right, or-left, or-right, Every-implies}
 use Rattle.crossing_theory.proofs.Translation.{Eq, to_Eq, from_Eq}
 use Rattle.crossing_theory.proofs.HalfWalls.{Proper, proper, small}
 use Rattle.crossing_theory.proofs.Carrying.{Passes}

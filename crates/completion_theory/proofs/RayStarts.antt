@@ -20,10 +20,10 @@ use Rattle.scattering.specs.Completion.{ray_before}
 use Rattle.scattering.specs.ActivePoint.{is_incoming}
 use Rattle.scattering.specs.Correction.{ray_coef}
 use Rattle.scattering.proofs.Pairing.{coef-append}
-use Rattle.scattering.proofs.Lists.{and-right, Every-implies, Every-append, Every-filter, any-none, filter-keeps, Every-from_In, Every-at, any-false, In-map, In-append, filter-from}
+use Rattle.scattering.proofs.Lists.{Every-append, Every-filter, any-none, filter-keeps, Every-from_In, Every-at, any-false, In-map, In-append, filter-from, and-right, Every-implies}
 use Rattle.scattering.proofs.Keys.{point_eq-same}
-use Rattle.correction_theory.proofs.StrictOrder.{ray_coef-own}
 use Rattle.plane_theory.proofs.Directions.{direction-zero}
+use Rattle.correction_theory.proofs.RayCoefficients.{ray_coef-own}
 use Rattle.crossing_theory.proofs.Keys.{keys, turn}
 use Rattle.crossing_theory.proofs.Translation.{Eq, Eq-refl, Eq-trans, Eq-sym, from_Eq, key_test, coef-is}
 use Rattle.crossing_theory.proofs.HalfWalls.{Proper, proper, small, half, sign}
@@ -43,7 +43,7 @@ nat_le-weaken d e n k h p q = grind arith
 nat_le-of : (d k : ℕ) → k < d → nat_le d k ≡ false
 nat_le-of d k h = grind arith
 
-nat_le-yes : (d k : ℕ) → nat_le d k ≡ true → d ≤ k
+pub nat_le-yes : (d k : ℕ) → nat_le d k ≡ true → d ≤ k
 nat_le-yes d k h = grind arith
 
 nat_le-no : (d k : ℕ) → nat_le d k ≡ false → k < d

@@ -1,7 +1,6 @@
 -- There is at most one completion.
 use Rattle.std.proofs.Common.{◌≡◌, ℕ, zero, suc, refl, subst, sym, ◌∙◌, ap, List, [], ◌∷◌, ◌++◌, map, Bool, true, false, cond, ◌≤◌, arith, inl, inr}
 use Rattle.std.specs.Prelude.{ℤ, pos, filter, ◌&&◌, ◌+ℤ◌, ◌-ℤ◌, ◌*ℤ◌, neg_ℤ, nat_le}
-use Rattle.std.specs.List.{list_any}
 use native.Mathlib.Decide.{dec_le}
 use Rattle.std.proofs.lemmas.Int.{ints}
 use Rattle.sum_algebra.proofs.Ring.{var, plus, times, minus, nought, ring}
@@ -17,10 +16,10 @@ use Rattle.scattering.specs.Completion.{IsCompletion, lowered}
 use Rattle.scattering.specs.ActivePoint.{is_incoming}
 use Rattle.scattering.specs.Correction.{ray_coef}
 use Rattle.scattering.proofs.Pairing.{coef-append}
-use Rattle.scattering.proofs.Lists.{Every-implies, Every-append, Every-filter, map-append}
+use Rattle.scattering.proofs.Lists.{Every-append, Every-filter, map-append, Every-implies}
 use Rattle.scattering.proofs.Keys.{key_eq-same, key_eq-apart}
-use Rattle.correction_theory.proofs.StrictOrder.{coef-none, dead-coef}
 use Rattle.plane_theory.proofs.Directions.{direction-zero}
+use Rattle.plane_theory.proofs.StrictOrder.{coef-none, dead-coef}
 use Rattle.crossing_theory.proofs.Translation.{from_Eq}
 use Rattle.crossing_theory.proofs.HalfWalls.{Proper, proper}
 use Rattle.crossing_theory.proofs.OtherFunctions.{refit}

@@ -6,7 +6,7 @@ use Rattle.scattering.specs.Collections.{Every}
 use Rattle.scattering.specs.Wall.{Wall, Diagram, IsWall, walls}
 use Rattle.scattering.specs.Completion.{IsCompletion}
 use Rattle.scattering.specs.Correction.{raised}
-use Rattle.scattering.specs.Stops.{StopCause, PointTooLarge, WeightTooLarge, TooManyWalls, StopsAfter, IsStopAt, IsFirstStop}
+use Rattle.scattering.specs.Stops.{StopCause, PointTooLarge, WeightTooLarge, TooManyWalls, StopsAfter, IsStopAt}
 use Rattle.completion_theory.specs.Laws.{StopIsUnique, FirstStopIsUnique}
 use Rattle.completion_theory.proofs.UniqueCompletion.{completion_is_unique}
 

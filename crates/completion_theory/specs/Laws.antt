@@ -22,6 +22,11 @@ CorrectionExists = (given : List Wall) (n m : ℕ) (e : Diagram) (p : Point) →
 abbrev pub CorrectionIsUnique : Type 0
 CorrectionIsUnique = (ws : List Wall) (p : Point) (n : ℕ) (h h' : Lie) → IsCorrection ws p n h → IsCorrection ws p n h' → (k : Key) → ratio_at h k ≡ ratio_at h' k
 
+-- so each correction is whole
+abbrev pub CorrectionIsWhole : Type 0
+CorrectionIsWhole = (given : List Wall) (n m : ℕ) (e : Diagram) (p : Point) (h : Lie) → n + 1 ≤ m → Every (IsWall m) given → Every IsInitial given → IsCompletion given n e → IsPoint p
+    → IsCorrection (walls (raised given n e)) p (n + 1) h → Every IsWhole h
+
 -- the corrections at all active points, in order
 abbrev pub CorrectionsExist : Type 0
 CorrectionsExist = (given : List Wall) (n m : ℕ) (e : Diagram) → n + 1 ≤ m → Every (IsWall m) given → Every IsInitial given → IsCompletion given n e

@@ -21,22 +21,22 @@ use Rattle.scattering.specs.Series.{Key, Sum, Exp, Powers, Term, degree, det, z,
 use Rattle.scattering.specs.Series as D
 use Rattle.scattering.specs.LocalProduct.{axis_x, axis_y}
 use Rattle.scattering.specs.Correction.{Ratio, IsRatio, Lie, ratio_at}
-use Rattle.scattering.proofs.Lists.{or-left, or-right, any-none, Every-from_In}
-use Rattle.scattering.proofs.Keys.{key_eq-same, key_eq-refl, int_eq-same, origin-case}
-use Rattle.correction_theory.proofs.StrictOrder.{coef-find}
+use Rattle.scattering.proofs.Lists.{any-none, Every-from_In, or-left, or-right, In-mapped, In-left, In-right}
+use Rattle.scattering.proofs.Keys.{key_eq-same, key_eq-refl, origin-case, int_eq-same}
 use Rattle.plane_theory.proofs.Directions.{det-scale, zero-factor, positive-not, as_multiple}
+use Rattle.plane_theory.proofs.StrictOrder.{coef-find}
 use Rattle.crossing_theory.proofs.Keys.{keys}
 use Rattle.crossing_theory.proofs.Translation.{Eq, Eq-refl, Eq-trans, Eq-sym, key_test}
 use Rattle.crossing_theory.proofs.CutFunctions.{above}
 use Rattle.correction_theory.proofs.RayGains.{less, less-forth}
-use Rattle.crossing_theory.proofs.LocalProductLaws.{mul, Auto, Vanishes, Central, Eq-mul}
+use Rattle.crossing_theory.proofs.LocalProductLaws.{mul, IsAutomorphism, Vanishes, Central, Eq-mul}
 use Rattle.correction_theory.proofs.LeadingDegree.{two-parts, weighted-right, coef-high, indicator-vanishes, orthogonal}
-use Rattle.correction_theory.proofs.LogarithmicDerivative.{Flux, euler, opp}
+use Rattle.correction_theory.proofs.LogarithmicDerivative.{HasNoResidue, euler, opp}
 use Rattle.correction_theory.proofs.Ratios.{reduce, one_number}
 
 -- ---- units
 
-module _ (k : ℕ) (θ : Sum → Sum) (auto : Auto k θ) where
+module _ (k : ℕ) (θ : Sum → Sum) (auto : IsAutomorphism k θ) where
   unit-left : (f : Sum) → Eq k (mul D.one f) f
   unit-left f = record { at = λ φ v. S.one_mul keys φ f }
 
@@ -67,7 +67,7 @@ module _ (k : ℕ) (θ : Sum → Sum) (auto : Auto k θ) where
 
 -- ---- exponent (0, 0)
 
-module _ (n : ℕ) (θ : Sum → Sum) (auto : Auto (suc n) θ) (flux : Flux (suc n) θ) (m : Exp) (low : Eq n (θ (monomial (z m))) (monomial (z m))) where
+module _ (n : ℕ) (θ : Sum → Sum) (auto : IsAutomorphism (suc n) θ) (no-residue : HasNoResidue (suc n) θ) (m : Exp) (low : Eq n (θ (monomial (z m))) (monomial (z m))) where
   low-opposite : Eq n (θ (monomial (z (opp m)))) (monomial (z (opp m)))
   low-opposite =
       exact keys n _ _
@@ -96,7 +96,7 @@ module _ (n : ℕ) (θ : Sum → Sum) (auto : Auto (suc n) θ) (flux : Flux (suc
         ∙ sym (two-parts n (z m) (z (opp m)) (omega arith) (omega arith) (θ (monomial (z m))) (θ (monomial (z (opp m)))) low low-opposite (λ u w. pos (degree u)) (indicator key_test q) van (omega arith))
         ∙ pair-ext _ _ (θ (monomial (z m))) (λ u. pair-factor (pos (degree u)) (λ w. indicator key_test q (key_mul u w)) (θ (monomial (z (opp m)))))
         ∙ sym (S.pair-mul keys (indicator key_test q) (euler (θ (monomial (z m)))) (θ (monomial (z (opp m)))) ∙ pair-theta (λ u. pair (λ w. indicator key_test q (key_mul u w)) (θ (monomial (z (opp m))))) (λ u. pos (degree u)) (θ (monomial (z m))))
-        ∙ flux.flux m (indicator key_test q) van central
+        ∙ no-residue.no-residue m (indicator key_test q) van central
 
     pub central-zero : coef (θ (monomial (z m))) (less q (opp m)) ≡ pos 0
     central-zero = zero-factor (pos (degree (less q (opp m)))) _ (not_zero (degree (less q (opp m))) (let e : degree (less q (opp m)) ≡ degree q = refl in omega (arith, e, deg))) weighed
@@ -119,7 +119,7 @@ less-opp k m =
     let p = sym (key-powers k.powers) in
     λ i. record { powers = p i; exp = record { a = a i; b = b i } }
 
-module _ (n : ℕ) (θ : Sum → Sum) (auto : Auto (suc n) θ) (flux : Flux (suc n) θ) (ix : Eq n (θ (monomial (z axis_x))) (monomial (z axis_x))) (iy : Eq n (θ (monomial (z axis_y))) (monomial (z axis_y))) where
+module _ (n : ℕ) (θ : Sum → Sum) (auto : IsAutomorphism (suc n) θ) (no-residue : HasNoResidue (suc n) θ) (ix : Eq n (θ (monomial (z axis_x))) (monomial (z axis_x))) (iy : Eq n (θ (monomial (z axis_y))) (monomial (z axis_y))) where
   abbrev at_x : Key → ℤ
   at_x k = coef (θ (monomial (z axis_x))) (key_mul k (z axis_x))
 
@@ -128,8 +128,8 @@ module _ (n : ℕ) (θ : Sum → Sum) (auto : Auto (suc n) θ) (flux : Flux (suc
 
   at_origin : (k : Key) → degree k ≡ suc n → k.exp ≡ origin → (at_x k ≡ pos 0) × (at_y k ≡ pos 0)
   at_origin k deg o = (
-    ap (coef (θ (monomial (z axis_x)))) (sym (less-opp k axis_x)) ∙ central-zero n θ auto flux axis_x ix k deg o,
-    ap (coef (θ (monomial (z axis_y)))) (sym (less-opp k axis_y)) ∙ central-zero n θ auto flux axis_y iy k deg o,
+    ap (coef (θ (monomial (z axis_x)))) (sym (less-opp k axis_x)) ∙ central-zero n θ auto no-residue axis_x ix k deg o,
+    ap (coef (θ (monomial (z axis_y)))) (sym (less-opp k axis_y)) ∙ central-zero n θ auto no-residue axis_y iy k deg o,
   )
 
   abbrev whole_key : Key → Key
@@ -309,20 +309,6 @@ module _ (n : ℕ) (θ : Sum → Sum) (auto : Auto (suc n) θ) (flux : Flux (suc
   abbrev all_keys : List Key
   all_keys = map (λ (t : Term). less t.0 axis_x) (θ (monomial (z axis_x))) ++ map (λ (t : Term). less t.0 axis_y) (θ (monomial (z axis_y)))
 
-  In-mapped : {A B : Type 0} (f : A → B) (xs : List A) (x : A) → In x xs → In (f x) (map f xs)
-  In-mapped f [] x i = absurd i
-  In-mapped f (y ∷ xs) x (inl e) = inl (ap f e)
-  In-mapped f (y ∷ xs) x (inr i) = inr (In-mapped f xs x i)
-
-  In-first : {A : Type 0} (xs ys : List A) (x : A) → In x xs → In x (xs ++ ys)
-  In-first [] ys x i = absurd i
-  In-first (y ∷ xs) ys x (inl e) = inl e
-  In-first (y ∷ xs) ys x (inr i) = inr (In-first xs ys x i)
-
-  In-second : {A : Type 0} (xs ys : List A) (x : A) → In x ys → In x (xs ++ ys)
-  In-second [] ys x i = i
-  In-second (y ∷ xs) ys x i = inr (In-second xs ys x i)
-
   less-key : (k : Key) (m : Exp) → less (key_mul k (z m)) m ≡ k
   less-key k m = ap (λ (x : Key). less x m) (keys.comm k (z m)) ∙ less-forth k m
 
@@ -346,7 +332,7 @@ module _ (n : ℕ) (θ : Sum → Sum) (auto : Auto (suc n) θ) (flux : Flux (suc
   built = build all_keys
 
   zero-unless : (k : Key) → degree k ≡ suc n → listed k built.h ≡ false → Zero k
-  zero-unless k deg no_k = (of (at_x k) (int-case (at_x k)) (λ q. In-first _ _ k (stands axis_x (θ (monomial (z axis_x))) k q)) (λ z. z.0), of (at_y k) (int-case (at_y k)) (λ q. In-second _ _ k (stands axis_y (θ (monomial (z axis_y))) k q)) (λ z. z.1))
+  zero-unless k deg no_k = (of (at_x k) (int-case (at_x k)) (λ q. In-left _ _ k (stands axis_x (θ (monomial (z axis_x))) k q)) (λ z. z.0), of (at_y k) (int-case (at_y k)) (λ q. In-right _ _ k (stands axis_y (θ (monomial (z axis_y))) k q)) (λ z. z.1))
     where
       of : (x : ℤ) → (x ≡ pos 0) ⊎ (x ≢ pos 0) → (x ≢ pos 0 → In k all_keys) → (Zero k → x ≡ pos 0) → x ≡ pos 0
       of x (inl e) f g = e

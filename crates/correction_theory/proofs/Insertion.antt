@@ -1,11 +1,11 @@
 -- Inserting an element into a list in strict order, where it is joined with the element that has its place.
-use Rattle.std.proofs.Common.{◌≡◌, refl, subst, sym, ◌∙◌, ap, List, [], ◌∷◌, ◌++◌, Bool, true, false, inl, inr, ◌⊎◌}
+use Rattle.std.proofs.Common.{◌≡◌, refl, subst, sym, ◌∙◌, ap, List, [], ◌∷◌, ◌++◌, Bool, true, inl, inr}
 use Rattle.std.specs.Prelude.{ℤ, pos, ◌+ℤ◌, IsTrue}
-use Rattle.sum_algebra.proofs.Ring.{var, nought, ring}
+use Rattle.sum_algebra.proofs.Ring.{nought, ring}
 use Rattle.sum_algebra.proofs.IntegerRing.{ints_ring, ◌:+◌, X, Y, Z}
 use Rattle.scattering.specs.Collections.{Every, EveryPair}
-use Rattle.scattering.proofs.Lists.{Every-implies, Every-append, pairs-append}
-use Rattle.correction_theory.proofs.TotalOrder.{Compared}
+use Rattle.scattering.proofs.Lists.{Every-append, pairs-append, Every-implies}
+use Rattle.plane_theory.proofs.TotalOrder.{Compared}
 
 -- elements have a place in an order; what they count for, under each name i, is summed
 module _ {A K I : Type 0} (place : A → K) (lt : K → K → Bool) (Good : A → Type 0) (count : I → A → ℤ) where

@@ -14,13 +14,13 @@ use Rattle.scattering.specs.Series.{Key, Sum, Exp, degree, det, z, key_mul, key_
 use Rattle.scattering.specs.Series as D
 use Rattle.scattering.specs.LocalProduct.{axis_x, axis_y}
 use Rattle.scattering.proofs.Keys.{key_eq-same, key_eq-apart}
-use Rattle.correction_theory.proofs.StrictOrder.{coef-rest}
+use Rattle.plane_theory.proofs.StrictOrder.{coef-rest}
 use Rattle.crossing_theory.proofs.Keys.{keys, key_det}
 use Rattle.crossing_theory.proofs.Translation.{Eq, Eq-trans, Eq-sym, cut-same, key_test, coef-is}
 use Rattle.crossing_theory.proofs.HalfWalls.{every-keys}
 use Rattle.crossing_theory.proofs.CutFunctions.{above, above-high, split-above}
 use Rattle.correction_theory.proofs.RayGains.{less, coef-above, moved-test}
-use Rattle.crossing_theory.proofs.LocalProductLaws.{mul, brace, Auto, Vanishes}
+use Rattle.crossing_theory.proofs.LocalProductLaws.{mul, brace, IsAutomorphism, Vanishes}
 
 -- ---- a sum that is a key below degree n + 1
 
@@ -110,7 +110,7 @@ indicator-vanishes k q le y d = go (key_eq y q) refl
 
 -- ---- the two images
 
-module _ (n : ℕ) (θ : Sum → Sum) (auto : Auto (suc n) θ) (ix : Eq n (θ (monomial (z axis_x))) (monomial (z axis_x))) (iy : Eq n (θ (monomial (z axis_y))) (monomial (z axis_y))) where
+module _ (n : ℕ) (θ : Sum → Sum) (auto : IsAutomorphism (suc n) θ) (ix : Eq n (θ (monomial (z axis_x))) (monomial (z axis_x))) (iy : Eq n (θ (monomial (z axis_y))) (monomial (z axis_y))) where
   same-products : Eq (suc n) (brace (θ (monomial (z axis_x))) (θ (monomial (z axis_y)))) (mul (θ (monomial (z axis_x))) (θ (monomial (z axis_y))))
   same-products =
       Eq-trans (suc n) _ (θ (brace (monomial (z axis_x)) (monomial (z axis_y)))) _ (Eq-sym (suc n) _ _ (auto.brackets (monomial (z axis_x)) (monomial (z axis_y))))

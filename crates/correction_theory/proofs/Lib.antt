@@ -5,7 +5,6 @@ pub mod LogarithmicDerivative
 pub mod MergedDiagram
 pub mod MergedTerms
 pub mod Ratios
+pub mod RayCoefficients
 pub mod RayGains
 pub mod ReducedRays
-pub mod StrictOrder
-pub mod TotalOrder

@@ -25,7 +25,7 @@ use Rattle.plane_theory.proofs.Directions.{zero-factor, positive-not}
 use Rattle.crossing_theory.proofs.Keys.{keys, key_det, turn, crossing, wall-inverse, crossing-mul}
 use Rattle.crossing_theory.proofs.Translation.{Eq, Eq-refl, Eq-trans, Eq-sym, rest-split}
 use Rattle.crossing_theory.proofs.HalfWalls.{Proper, sign, as_crossing, every-keys}
-use Rattle.crossing_theory.proofs.LocalProductLaws.{mul, brace, Auto, Vanishes, Central, Eq-mul, Eq-brace, crossing-center, crossing-still, identity, after, auto-half}
+use Rattle.crossing_theory.proofs.LocalProductLaws.{mul, brace, IsAutomorphism, Vanishes, Central, Eq-mul, Eq-brace, crossing-center, crossing-still, identity, after, half-automorphism}
 
 abbrev pub euler : Sum → Sum
 euler s = theta (λ x. pos (degree x)) s
@@ -174,7 +174,7 @@ module _ (k : ℕ) (h : Half) (p : Proper h.wall) where
 
 -- ---- an image, bracketed and divided by itself
 
-module _ (k : ℕ) (θ : Sum → Sum) (auto : Auto k θ) (m : Exp) where
+module _ (k : ℕ) (θ : Sum → Sum) (auto : IsAutomorphism k θ) (m : Exp) where
   abbrev G : Sum
   G = θ (monomial (z m))
 
@@ -211,10 +211,10 @@ module _ (k : ℕ) (θ : Sum → Sum) (auto : Auto k θ) (m : Exp) where
 
 -- ---- the degree derivation of an image, divided by the image
 
-pub record Flux (k : ℕ) (θ : Sum → Sum) : Type 0 where
-  pub flux : (m : Exp) (φ : Key → ℤ) → Vanishes k φ → Central φ → pair φ (mul (euler (θ (monomial (z m)))) (θ (monomial (z (opp m))))) ≡ pos 0
+pub record HasNoResidue (k : ℕ) (θ : Sum → Sum) : Type 0 where
+  pub no-residue : (m : Exp) (φ : Key → ℤ) → Vanishes k φ → Central φ → pair φ (mul (euler (θ (monomial (z m)))) (θ (monomial (z (opp m))))) ≡ pos 0
 
-module _ (k : ℕ) (θ : Sum → Sum) (auto : Auto k θ) (known : Flux k θ) (h : Half) (p : Proper h.wall) (m : Exp) (φ : Key → ℤ) (v : Vanishes k φ) (c : Central φ) where
+module _ (k : ℕ) (θ : Sum → Sum) (auto : IsAutomorphism k θ) (known : HasNoResidue k θ) (h : Half) (p : Proper h.wall) (m : Exp) (φ : Key → ℤ) (v : Vanishes k φ) (c : Central φ) where
   abbrev A : Sum
   A = θ (monomial (z m))
 
@@ -241,7 +241,7 @@ module _ (k : ℕ) (θ : Sum → Sum) (auto : Auto k θ) (known : Flux k θ) (h 
       sym (S.pair-mul keys φ (cr (euler A)) (cr B))
       ∙ sym ((crossing-mul h.wall.dir (sign h) k h.wall.function p.along (euler A) B).at φ v)
       ∙ crossing-center k h.wall.dir (sign h) h.wall.function p.along φ v c (mul (euler A) B)
-      ∙ known.flux m φ v c
+      ∙ known.no-residue m φ v c
 
   module _ (y : Key) (a : Ahead k h p (pos 1) y) where
     abbrev K : Key → ℤ
@@ -293,18 +293,18 @@ module _ (k : ℕ) (θ : Sum → Sum) (auto : Auto k θ) (known : Flux k θ) (h 
       S.pair-swap (λ b y. χ (key_mul y b)) (cr turned) (log_derivative k h p)
       ∙ (log-ahead k h p).at _ (λ _. pos 0) second-key ∙ pair-zero (log_derivative k h p)
 
-  pub flux-after : pair φ (mul (euler (cross_half k h A)) (cross_half k h B)) ≡ pos 0
-  flux-after =
+  pub no-residue-after : pair φ (mul (euler (cross_half k h A)) (cross_half k h B)) ≡ pos 0
+  no-residue-after =
       (Eq-mul k _ (euler (cr A)) _ (cr B) (theta-same keys key_det k (λ x. pos (degree x)) _ _ (as_crossing k h p A)) (as_crossing k h p B)).at φ v
       ∙ S.pair-mul keys φ (euler (cr A)) (cr B) ∙ pair-theta χ (λ x. pos (degree x)) (cr A)
       ∙ crossing-derivative k h p χ χ-vanishes A ∙ rw (first-part, second-part) refl
 
-pub flux-half : (k : ℕ) (θ : Sum → Sum) → Auto k θ → Flux k θ → (h : Half) → Proper h.wall → Flux k (λ u. cross_half k h (θ u))
-flux-half k θ auto known h p = record { flux = λ m φ v c. flux-after k θ auto known h p m φ v c }
+pub no-residue-half : (k : ℕ) (θ : Sum → Sum) → IsAutomorphism k θ → HasNoResidue k θ → (h : Half) → Proper h.wall → HasNoResidue k (λ u. cross_half k h (θ u))
+no-residue-half k θ auto known h p = record { no-residue = λ m φ v c. no-residue-after k θ auto known h p m φ v c }
 
-pub flux-carry : (k : ℕ) (hs : List Half) → Every (λ h. Proper h.wall) hs → (θ : Sum → Sum) → Auto k θ → Flux k θ → Flux k (λ u. carry k hs (θ u))
-flux-carry k [] q θ auto known = known
-flux-carry k (h ∷ hs) q θ auto known = flux-carry k hs q.1 (λ u. cross_half k h (θ u)) (after k θ (cross_half k h) auto (auto-half k h q.0)) (flux-half k θ auto known h q.0)
+pub no-residue-carry : (k : ℕ) (hs : List Half) → Every (λ h. Proper h.wall) hs → (θ : Sum → Sum) → IsAutomorphism k θ → HasNoResidue k θ → HasNoResidue k (λ u. carry k hs (θ u))
+no-residue-carry k [] q θ auto known = known
+no-residue-carry k (h ∷ hs) q θ auto known = no-residue-carry k hs q.1 (λ u. cross_half k h (θ u)) (after k θ (cross_half k h) auto (half-automorphism k h q.0)) (no-residue-half k θ auto known h q.0)
 
-pub flux : (k : ℕ) (hs : List Half) → Every (λ h. Proper h.wall) hs → Flux k (carry k hs)
-flux k hs q = flux-carry k hs q (λ u. u) (identity k) (record { flux = λ m φ v c. S.pair-mul keys φ (euler (monomial (z m))) (monomial (z (opp m))) ∙ ring ints_ring (pair (λ w. φ (key_mul (z m) w)) (monomial (z (opp m))) ∷ []) (nought :* E.unit :* X :+ nought) nought refl })
+pub no-residue : (k : ℕ) (hs : List Half) → Every (λ h. Proper h.wall) hs → HasNoResidue k (carry k hs)
+no-residue k hs q = no-residue-carry k hs q (λ u. u) (identity k) (record { no-residue = λ m φ v c. S.pair-mul keys φ (euler (monomial (z m))) (monomial (z (opp m))) ∙ ring ints_ring (pair (λ w. φ (key_mul (z m) w)) (monomial (z (opp m))) ∷ []) (nought :* E.unit :* X :+ nought) nought refl })

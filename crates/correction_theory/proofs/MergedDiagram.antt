@@ -1,25 +1,21 @@
 -- A merged diagram exists: the terms of the corrections are added to the rays, one after the other.
 use Rattle.std.proofs.Common.{◌≡◌, ◌≢◌, ℕ, refl, subst, sym, ◌∙◌, ap, List, [], ◌∷◌, map, Bool, true, false, cond, ◌≤◌, arith, inl, inr, ◌⊎◌}
-use Rattle.std.specs.Prelude.{ℤ, pos, ◌&&◌, ◌+ℤ◌, ◌*ℤ◌, ◌≤ℤ◌, neg_ℤ, IsTrue, nat_abs}
+use Rattle.std.specs.Prelude.{ℤ, pos, ◌&&◌, ◌+ℤ◌, ◌*ℤ◌, neg_ℤ, IsTrue, nat_abs}
 use Rattle.std.specs.Int.{IsGcd}
-use Rattle.std.specs.List.{list_any}
-use Rattle.std.proofs.lemmas.Int.{ints}
 use Rattle.sum_algebra.proofs.Ring.{minus, nought, ring}
 use Rattle.sum_algebra.proofs.Ring as E
 use Rattle.sum_algebra.proofs.IntegerRing.{ints_ring, ◌:+◌, ◌:*◌, X, Y, Z}
-use Rattle.scattering.specs.Collections.{In, Every, EveryPair}
-use Rattle.scattering.specs.Series.{Key, Sum, Exp, Term, degree, rest, one, coef, coef_at, key_eq, exp_eq, origin, scale, IsMultiple, IsWallFunction}
+use Rattle.scattering.specs.Collections.{Every, EveryPair}
+use Rattle.scattering.specs.Series.{Key, Sum, Exp, Term, degree, rest, one, coef, coef_at, key_eq, exp_eq, origin, IsMultiple}
 use Rattle.scattering.specs.Plane.{Point, IsPoint, IsDirection, point_eq, point_before}
-use Rattle.scattering.specs.Wall.{Outgoing, Wall, Diagram, IsWall, is_live, cut_walls}
-use Rattle.scattering.specs.Completion.{IsReduced}
-use Rattle.crossing_theory.proofs.LiveWalls.{scale-not_origin, direction-not_origin}
-use Rattle.scattering.specs.Correction.{Ratio, Lie, ratio_at, ray_coef, Corrections, IsWhole, IsAdded, IsMerged, AreMergeable}
-use Rattle.scattering.proofs.Keys.{key_eq-same, key_eq-refl, exp_eq-same, exp_eq-refl, point_eq-same}
-use Rattle.scattering.proofs.Lists.{Every-from_In, Every-at, Every-implies, any-true}
-use Rattle.plane_theory.proofs.Directions.{Multiple, as_multiple, same-direction, positive-not}
+use Rattle.scattering.specs.Wall.{Outgoing, Wall, IsWall, is_live, cut_walls}
+use Rattle.scattering.specs.Correction.{Ratio, Lie, ratio_at, ray_coef, Corrections, IsWhole, IsAdded, AreMergeable}
+use Rattle.scattering.proofs.Lists.{Every-from_In, Every-at, any-true, Every-implies}
+use Rattle.scattering.proofs.Keys.{key_eq-same, key_eq-refl, exp_eq-refl, point_eq-same}
+use Rattle.plane_theory.proofs.Directions.{Multiple, as_multiple, same-direction, positive-not, direction-not_origin, scale-not_origin}
 use Rattle.plane_theory.proofs.PointOrder.{before-irrefl}
-use Rattle.correction_theory.proofs.StrictOrder.{coef-none, coef-find, dead-coef}
-use Rattle.correction_theory.proofs.TotalOrder.{Place, place_before, place-total, place-trans}
+use Rattle.plane_theory.proofs.StrictOrder.{coef-none, coef-find, dead-coef}
+use Rattle.plane_theory.proofs.TotalOrder.{Place, place_before, place-total, place-trans}
 use Rattle.correction_theory.proofs.Insertion.{total, Joined, Inserted, insert}
 use Rattle.correction_theory.proofs.MergedTerms.{zero-or-not, Added, add-term, one-is}
 use Rattle.correction_theory.specs.Laws.{MergedDiagramExists}
@@ -154,14 +150,18 @@ at-point n p ip (t ∷ vs) hv rays g o = go (zero-or-not t.1) (at-point n p ip v
 
     go : (t.1 ≡ pos 0) ⊎ (t.1 ≢ pos 0) → Rays n rays (λ q d k. cond (point_eq p q) (coef vs k) (pos 0)) → Rays n rays (λ q d k. cond (point_eq p q) (coef (t ∷ vs) k) (pos 0))
     go (inl z) r = record {
-      items = r.items; good = r.good; ordered = r.ordered;
+      items = r.items;
+      good = r.good;
+      ordered = r.ordered;
       sums = λ q d k hd mk. r.sums q d k hd mk ∙ skipped (point_eq p q) (key_eq t.0 k) (ray_coef rays q d k) (coef vs k)
           ∙ ap (λ v. ray_coef rays q d k +ℤ cond (point_eq p q) (cond (key_eq t.0 k) v (pos 0) +ℤ coef vs k) (pos 0)) (sym z);
     }
     go (inr z) r =
         let i = with-term n p ip m.dir m.direction t z hv.0.0 hv.0.1 (pos m.g, m.positive, m.is) r.items r.good r.ordered in
         record {
-          items = i.items; good = i.good; ordered = i.ordered;
+          items = i.items;
+          good = i.good;
+          ordered = i.ordered;
           sums = λ q d k hd mk.
               sym (total-rays n q d k i.items) ∙ i.sums (q, d, k)
               ∙ ap (λ c. c +ℤ total place_of place_before (GoodRay n) ray_count (q, d, k) r.items) (counted n p ip m.dir m.direction t z hv.0.0 hv.0.1 (pos m.g, m.positive, m.is) q d k hd mk)
@@ -250,7 +250,7 @@ merge n le rays g o (c ∷ cs) m =
     let r = merge n le rays g o cs (record { points = m.points.1; sorted = m.sorted.1; distinct = m.distinct.1; degrees = m.degrees.1; whole = m.whole.1 }) in
     let w = values-of n c.1 m.distinct.0 m.degrees.0 m.whole.0 in
     let s = at-point n c.0 m.points.0 w.terms
-        (of-keys n c.1 w (λ k. (1 ≤ degree k) × (degree k ≤ n) × (k.exp ≢ origin)) (Every-implies _ _ c.1 (λ t q. let e = q.0 in (omega (arith, e, le), omega (arith, e), q.1)) m.degrees.0)) r.items r.good r.ordered in
+    (of-keys n c.1 w (λ k. (1 ≤ degree k) × (degree k ≤ n) × (k.exp ≢ origin)) (Every-implies _ _ c.1 (λ t q. let e = q.0 in (omega (arith, e, le), omega (arith, e), q.1)) m.degrees.0)) r.items r.good r.ordered in
     record { items = s.items; good = s.good; ordered = s.ordered; added = λ p d k hd mk. go r w s p d k hd mk (point_eq c.0 p) refl }
   where
     others : (p : Point) → c.0 ≡ p → Every (λ b. point_eq b.0 p ≡ false) cs

@@ -1,15 +1,15 @@
 -- A term added to a wall function.
-use Rattle.std.proofs.Common.{◌≡◌, ◌≢◌, ℕ, refl, subst, sym, ◌∙◌, ap, List, [], ◌∷◌, Bool, true, false, cond, not, ◌≤◌, arith, inl, inr, ◌⊎◌}
-use Rattle.std.specs.Prelude.{ℤ, pos, ◌+ℤ◌, filter}
+use Rattle.std.proofs.Common.{◌≡◌, ◌≢◌, ℕ, refl, subst, sym, ◌∙◌, ap, [], ◌∷◌, Bool, true, false, cond, not, ◌≤◌, arith, inl, inr, ◌⊎◌}
+use Rattle.std.specs.Prelude.{ℤ, pos, ◌+ℤ◌}
 use Rattle.std.proofs.lemmas.Int.{ints}
 use Rattle.sum_algebra.proofs.Ring.{nought, ring}
 use Rattle.sum_algebra.proofs.IntegerRing.{ints_ring, ◌:+◌, X}
-use Rattle.scattering.specs.Collections.{In, Every}
+use Rattle.scattering.specs.Collections.{In}
 use Rattle.scattering.specs.Series.{Key, Sum, Exp, Term, degree, rest, one, unit, coef, coef_at, key_eq, key_before, int_eq, IsMultiple, IsWallFunction}
+use Rattle.scattering.proofs.Lists.{Every-from_In, Every-at, filter-from, filter-keeps, not-out, Every-implies}
 use Rattle.scattering.proofs.Keys.{key_eq-same, key_eq-refl, key_eq-apart, int_eq-same}
-use Rattle.scattering.proofs.Lists.{Every-from_In, Every-at, Every-implies, filter-from, filter-keeps, not-out}
-use Rattle.correction_theory.proofs.StrictOrder.{coef-none, coef-rest}
-use Rattle.correction_theory.proofs.TotalOrder.{key-total, key-trans}
+use Rattle.plane_theory.proofs.StrictOrder.{coef-none, coef-rest}
+use Rattle.plane_theory.proofs.TotalOrder.{key-total, key-trans}
 use Rattle.correction_theory.proofs.Insertion.{total, Joined, Inserted, insert}
 
 -- a number is 0 or not

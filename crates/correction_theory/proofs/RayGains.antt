@@ -15,18 +15,13 @@ use Rattle.scattering.specs.Wall.{WallKind, Outgoing, Wall, starts_at, is_line}
 use Rattle.scattering.specs.ActivePoint.{is_incoming}
 use Rattle.scattering.specs.Correction.{ray_coef}
 use Rattle.scattering.proofs.Pairing.{coef-append}
-use Rattle.scattering.proofs.Lists.{Every-implies}
+use Rattle.scattering.proofs.Lists.{bool_iff, Every-implies}
 use Rattle.scattering.proofs.Keys.{key_eq-same, key_eq-refl, exp_eq-same}
 use Rattle.plane_theory.proofs.Directions.{same-direction}
 use Rattle.crossing_theory.proofs.Translation.{key_test, coef-is}
 use Rattle.crossing_theory.proofs.HalfWalls.{Proper, half}
 use Rattle.crossing_theory.proofs.AddedTerms.{gain, pair-extra, start_side}
 use Rattle.crossing_theory.proofs.CutFunctions.{one_le, added, base, tops, above}
-
-pub bool_iff : (a b : Bool) → (a ≡ true → b ≡ true) → (b ≡ true → a ≡ true) → a ≡ b
-bool_iff true b f g = sym (f refl)
-bool_iff false true f g = g refl
-bool_iff false false f g = refl
 
 -- x divided by z^m
 abbrev pub less : Key → Exp → Key

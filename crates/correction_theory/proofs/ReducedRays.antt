@@ -11,7 +11,8 @@ use Rattle.scattering.specs.Completion.{ray_before, IsReduced}
 use Rattle.scattering.specs.Correction.{ray_coef}
 use Rattle.scattering.proofs.Lists.{Every-filter, filter-keeps, Every-at, pairs-filter}
 use Rattle.scattering.proofs.Keys.{key_eq-same}
-use Rattle.correction_theory.proofs.StrictOrder.{sorted-unique, ray_before-asym, RaysRise, coef-own, coef-rest, series-unique, ray_coef-own, ray_coef-find}
+use Rattle.plane_theory.proofs.StrictOrder.{sorted-unique, ray_before-asym, coef-own, coef-rest, series-unique}
+use Rattle.correction_theory.proofs.RayCoefficients.{RaysRise, ray_coef-own, ray_coef-find}
 
 first-term : (f : Sum) → IsTrue (list_any (λ (t : Term). true) f) → (t : Term) × In t f
 first-term [] h = absurd (cc)
@@ -19,10 +20,6 @@ first-term (t ∷ f) h = (t, inl refl)
 
 pub live-term : (r : Wall) → IsTrue (is_live r) → (t : Term) × In t (rest r.function)
 live-term r h = first-term (rest r.function) h
-
-not-true : (b : Bool) → not b ≡ true → b ≡ false
-not-true true e = absurd (cc)
-not-true false e = refl
 
 -- a term of the rest: its coefficient, its exponent
 pub rest-own : (n : ℕ) (r : Wall) → IsWall n r → (t : Term) → In t (rest r.function) → coef (rest r.function) t.0 ≡ t.1

@@ -11,7 +11,7 @@ use Rattle.scattering.specs.Series.{Key, Term, Sum, degree, det, key_mul, cut}
 use Rattle.scattering.specs.Series as D
 use Rattle.scattering.specs.Bracket.{bracket, term_bracket}
 use Rattle.crossing_theory.specs.Laws.{BracketIsAntisymmetric, BracketDerives, BracketDerivesFirst, JacobiIdentity}
-use Rattle.crossing_theory.proofs.Keys.{keys, key_det, key_det-left, key_det-right, key_det-swap}
+use Rattle.crossing_theory.proofs.Keys.{keys, key_det, key_det-left, key_det-right}
 use Rattle.crossing_theory.proofs.Translation.{Eq, from_Eq, cut-same, pair-mul, pair-minus}
 use Rattle.crossing_theory.proofs.LocalProductLaws.{brace, Vanishes}
 

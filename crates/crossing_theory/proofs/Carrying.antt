@@ -7,7 +7,7 @@ use Rattle.scattering.specs.Series as D
 use Rattle.scattering.specs.Plane.{Point}
 use Rattle.scattering.specs.Wall.{Wall, is_on, starts_at}
 use Rattle.scattering.specs.LocalProduct.{Half, carry, cross_half, halves}
-use Rattle.scattering.proofs.Lists.{Every-implies, Every-in_order, Every-flat_map, Every-map}
+use Rattle.scattering.proofs.Lists.{Every-in_order, Every-flat_map, Every-map, Every-implies}
 use Rattle.crossing_theory.proofs.Translation.{Eq, Eq-refl, Eq-trans}
 use Rattle.crossing_theory.proofs.HalfWalls.{Proper, Commutes, half-respects, half, cancels, dead}
 

@@ -1,24 +1,20 @@
 -- The laws of one crossing and of two, in the words of the definitions.
-use Rattle.std.proofs.Common.{◌≡◌, ℕ, refl, subst, sym, ◌∙◌, ap, [], ◌∷◌, Bool, true, false, ◌<◌, ◌≤◌, ◌+◌, arith, cond, not}
+use Rattle.std.proofs.Common.{◌≡◌, ℕ, refl, subst, sym, ◌∙◌, ap, [], ◌∷◌, Bool, true, false, ◌<◌, ◌+◌, arith, cond, not}
 use Rattle.std.specs.Prelude.{◌&&◌, ℤ, pos, neg_ℤ, nat_le}
 use Rattle.std.specs.List.{list_any}
 use Rattle.sum_algebra.proofs.Ring.{minus, ring}
 use Rattle.sum_algebra.proofs.IntegerRing.{ints_ring, X}
-use Rattle.scattering.specs.Collections.{In}
-use Rattle.scattering.specs.Series.{Exp, Key, Term, Sum, origin, det, degree, coef, rest, int_eq, key_eq, IsWallFunction, SameTo}
-use Rattle.scattering.specs.Series as D
-use Rattle.scattering.specs.Bracket.{bracket}
-use Rattle.scattering.specs.Plane.{Point}
+use Rattle.scattering.specs.Series.{Exp, Key, Term, Sum, det, degree, rest, int_eq, key_eq, IsWallFunction, SameTo}
 use Rattle.scattering.specs.Wall.{Line, Wall, are_parallel, crosses_to}
 use Rattle.scattering.specs.LocalProduct.{Half, cross, cross_half}
-use Rattle.scattering.proofs.Keys.{key_eq-same}
 use Rattle.scattering.proofs.Lists.{any-false}
+use Rattle.scattering.proofs.Keys.{key_eq-same}
 use Rattle.crossing_theory.specs.Laws.{CrossingKeepsProducts, CrossingKeepsBrackets, CrossingKeepsCenter, CrossingIsUndone, ParallelCrossingsCommute, HighCrossingsCommute}
-use Rattle.crossing_theory.proofs.Keys.{crossing, crossing-back}
+use Rattle.crossing_theory.proofs.Keys.{crossing-back}
 use Rattle.crossing_theory.proofs.Translation.{Eq, Eq-trans, Eq-sym, from_Eq, mul-same, coef-is, key_test}
-use Rattle.crossing_theory.proofs.HalfWalls.{Proper, proper-by, as_crossing, half, twice}
+use Rattle.crossing_theory.proofs.HalfWalls.{Proper, proper-by, half, twice}
 use Rattle.crossing_theory.proofs.PassivePoints.{crosses-commute}
-use Rattle.crossing_theory.proofs.LocalProductLaws.{Auto, auto-half, mul, brace, Eq-mul, Eq-brace, Vanishes, Central}
+use Rattle.crossing_theory.proofs.LocalProductLaws.{IsAutomorphism, half-automorphism, mul, brace, Vanishes, Central}
 use Rattle.crossing_theory.proofs.BracketLaws.{bracket-same}
 use Rattle.sum_algebra.proofs.Coefficients.{indicator}
 
@@ -39,8 +35,8 @@ module _ (k m : ℕ) (d : Exp) (f : Sum) (s : ℤ) (w : IsWallFunction m d f) wh
   at-half : (g : Sum) → cross_half k (half_of d f s) g ≡ cross k d f s g
   at-half g = ap (λ t. cross k d f t g) (twice-negated s)
 
-  auto : Auto k (λ g. cross k d f s g)
-  auto = subst (λ t. Auto k (λ g. cross k d f t g)) (twice-negated s) (auto-half k (half_of d f s) proper-of)
+  auto : IsAutomorphism k (λ g. cross k d f s g)
+  auto = subst (λ t. IsAutomorphism k (λ g. cross k d f t g)) (twice-negated s) (half-automorphism k (half_of d f s) proper-of)
 
 pub keeps-products : CrossingKeepsProducts
 keeps-products k m d f s w g h =

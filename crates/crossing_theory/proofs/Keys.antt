@@ -1,4 +1,4 @@
--- the keys of the project: powers of t1 .. t8 and an exponent in Z^2, and crossings of a wall of direction m0
+-- Keys, which are powers of t1 .. t8 and an exponent in Z^2, and crossings of a wall of direction m0.
 use Rattle.std.specs.Prelude.{◌≡◌, refl, ℕ, List, [], ◌∷◌, ◌≤◌}
 use Rattle.std.proofs.Common.{sym, ◌∙◌, ap, arith, add_assoc, add_comm, zero-add}
 use mathlib.Core.Path.{fun_ext}
@@ -107,7 +107,7 @@ module _ (m0 : Exp) (s : ℤ) where
     pub inverse-along : Supported (Along m0) (inverse keys k f)
     inverse-along = on_inverse keys (Along m0) along-one along-mul k f wall-along
 
-    -- ---- the laws of crossings, as the project needs them
+    -- ---- the laws of crossings
     pub crossing-mul : (g h : Series) → Same keys k (crossing k m0 s f (S.mul keys g h)) (S.mul keys (crossing k m0 s f g) (crossing k m0 s f h))
     crossing-mul g h = cross-mul keys k f (inverse keys k f) (turn m0 s) wall-inverse turn-add g h
 

@@ -1,36 +1,21 @@
 -- Walls whose function is 1 aren't seen by a local product.
 use Rattle.std.proofs.Common.{◌≡◌, ◌≢◌, ℕ, refl, subst, sym, ◌∙◌, ap, List, [], ◌∷◌, ◌++◌, map, Bool, true, false, cond, not, arith}
-use Rattle.std.specs.Prelude.{ℤ, pos, negsuc, filter, flat_map, ◌&&◌, ◌||◌, ◌*ℤ◌, ◌+ℤ◌, nat_le}
+use Rattle.std.specs.Prelude.{ℤ, pos, negsuc, filter, flat_map, ◌&&◌, ◌||◌, nat_le}
 use Rattle.std.specs.List.{list_any}
 use Rattle.std.proofs.lemmas.Int.{ints}
-use Rattle.sum_algebra.proofs.Ring.{nought, ring}
-use Rattle.sum_algebra.proofs.IntegerRing.{ints_ring, ◌:+◌, ◌:*◌, X, Y}
 use Rattle.scattering.specs.Collections.{Every, in_order}
 use Rattle.scattering.specs.Series.{Sum, Exp, Term, det, origin, rest, scale, z, monomial}
 use Rattle.scattering.specs.Series as D
 use Rattle.scattering.specs.Plane.{Point, IsDirection}
 use Rattle.scattering.specs.Wall.{Wall, is_live, is_on, starts_at, allows}
 use Rattle.scattering.specs.LocalProduct.{Half, along, carry, cross_half, halves, half_walls, image}
-use Rattle.scattering.proofs.Lists.{Every-implies, Every-filter, Every-flat_map}
-use Rattle.plane_theory.proofs.Directions.{zero-factor, combination}
+use Rattle.scattering.proofs.Lists.{Every-filter, Every-flat_map, Every-implies}
+use Rattle.plane_theory.proofs.Directions.{direction-not_origin, scale-not_origin}
 use Rattle.crossing_theory.proofs.Translation.{Eq, Eq-refl, Eq-trans}
 use Rattle.crossing_theory.proofs.HalfWalls.{Proper, small, half, half-respects, dead}
 use Rattle.crossing_theory.proofs.Carrying.{ProperHalf}
 use Rattle.crossing_theory.proofs.OtherFunctions.{before, of_halves}
 use Rattle.crossing_theory.proofs.SortingByAngle.{turns-trans, turns-asym, in_order-filter}
-
-pub direction-not_origin : (d : Exp) → IsDirection d → d ≢ origin
-direction-not_origin d h e =
-    let c = combination d h in
-    let q : c.0 *ℤ pos 0 +ℤ c.1 *ℤ pos 0 ≡ pos 1 = subst (λ (x : Exp). c.0 *ℤ x.a +ℤ c.1 *ℤ x.b ≡ pos 1) e c.2 in
-    let r : c.0 *ℤ pos 0 +ℤ c.1 *ℤ pos 0 ≡ pos 0 = ring ints_ring (c.0 ∷ c.1 ∷ []) (X :* nought :+ Y :* nought) nought refl in
-    let s : pos 1 ≡ pos 0 = sym q ∙ r in absurd (omega (arith, ints, s))
-
-pub scale-not_origin : (s : ℤ) (d : Exp) → s ≢ pos 0 → d ≢ origin → scale s d ≢ origin
-scale-not_origin s d n h e =
-    let a : d.a ≡ pos 0 = zero-factor s d.a n (ap (λ (x : Exp). x.a) e) in
-    let b : d.b ≡ pos 0 = zero-factor s d.b n (ap (λ (x : Exp). x.b) e) in
-    h (λ i. record { a = a i; b = b i })
 
 -- a half-wall has a side, and its wall a direction
 abbrev Directed : Half → Type 0

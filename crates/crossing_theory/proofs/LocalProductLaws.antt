@@ -1,7 +1,6 @@
 -- A local product keeps sums, products, the bracket and the terms of exponent (0, 0), and has an inverse.
 use Rattle.std.proofs.Common.{◌≡◌, ◌≢◌, ℕ, refl, subst, sym, ◌∙◌, ap, List, [], ◌∷◌, Bool, true, false, ◌<◌, arith}
 use Rattle.std.specs.Prelude.{ℤ, pos, ◌*ℤ◌, neg_ℤ}
-use Rattle.std.proofs.lemmas.Int.{ints}
 use Rattle.sum_algebra.proofs.Ring.{var, plus, times, minus, nought, ring}
 use Rattle.sum_algebra.proofs.Ring as E
 use Rattle.sum_algebra.proofs.IntegerRing.{ints_ring, ◌:+◌, ◌:*◌, ◌:-◌, X, Y, Z}
@@ -15,7 +14,7 @@ use Rattle.sum_algebra.proofs.Bracket.{bracket, pair-bracket}
 use Rattle.scattering.specs.Collections.{Every}
 use Rattle.scattering.specs.Series.{Key, Sum, Exp, degree, det, key_mul, origin, int_eq}
 use Rattle.scattering.specs.LocalProduct.{Half, carry, cross_half}
-use Rattle.scattering.proofs.Keys.{int_eq-same}
+use Rattle.scattering.proofs.Keys.{int_eq-refl, int_eq-same}
 use Rattle.crossing_theory.proofs.Keys.{keys, key_det, Along, turn, crossing, crossing-mul, crossing-bracket, crossing-back, turn-add, turn-along, along-one, along-mul, wall-along, inverse-along}
 use Rattle.crossing_theory.proofs.Keys as C
 use Rattle.crossing_theory.proofs.Translation.{Eq, Eq-refl, Eq-trans, Eq-sym}
@@ -35,7 +34,7 @@ Vanishes k φ = (x : Key) → k < degree x → φ x ≡ pos 0
 abbrev pub Central : (Key → ℤ) → Type 0
 Central φ = (x : Key) → x.exp ≢ origin → φ x ≡ pos 0
 
-pub record Auto (k : ℕ) (θ : Sum → Sum) : Type 0 where
+pub record IsAutomorphism (k : ℕ) (θ : Sum → Sum) : Type 0 where
   pub respects : (f g : Sum) → Eq k f g → Eq k (θ f) (θ g)
   pub products : (f g : Sum) → Eq k (θ (mul f g)) (mul (θ f) (θ g))
   pub brackets : (f g : Sum) → Eq k (θ (brace f g)) (brace (θ f) (θ g))
@@ -55,10 +54,10 @@ Eq-brace k f f' g g' e h = record {
       ∙ sym (pair-bracket keys key_det φ f' g');
 }
 
-pub identity : (k : ℕ) → Auto k (λ f. f)
+pub identity : (k : ℕ) → IsAutomorphism k (λ f. f)
 identity k = record { respects = λ f g e. e; products = λ f g. Eq-refl k _; brackets = λ f g. Eq-refl k _; center = λ φ v c f. refl; onto = λ f. (f, Eq-refl k f) }
 
-pub after : (k : ℕ) (θ η : Sum → Sum) → Auto k θ → Auto k η → Auto k (λ f. η (θ f))
+pub after : (k : ℕ) (θ η : Sum → Sum) → IsAutomorphism k θ → IsAutomorphism k η → IsAutomorphism k (λ f. η (θ f))
 after k θ η a b = record {
   respects = λ f g e. b.respects (θ f) (θ g) (a.respects f g e);
   products = λ f g. Eq-trans k _ (η (mul (θ f) (θ g))) _ (b.respects _ _ (a.products f g)) (b.products (θ f) (θ g));
@@ -85,11 +84,8 @@ module _ (k : ℕ) (d : Exp) (s : ℤ) (f : Sum) (w : C.Wall d f) where
   image-center : (φ : Key → ℤ) → Vanishes k φ → Central φ → (x : Key) → pair φ (image keys k f (inverse keys k f) (turn d s) x) ≡ φ x
   image-center φ v c x = go (int_eq (turn d s x) (pos 0)) refl
     where
-      int-refl : (y : ℤ) → int_eq y y ≡ true
-      int-refl y = grind (arith, ints)
-
       apart : int_eq (turn d s x) (pos 0) ≡ false → (y : Key) → turn d s y ≡ turn d s x → y.exp ≢ origin
-      apart e y q o = let t : int_eq (turn d s x) (pos 0) ≡ true = subst (λ n. int_eq n (pos 0) ≡ true) q (subst (λ n. int_eq n (pos 0) ≡ true) (sym (turn-origin y o)) (int-refl (pos 0))) in absurd (cc)
+      apart e y q o = let t : int_eq (turn d s x) (pos 0) ≡ true = subst (λ n. int_eq n (pos 0) ≡ true) q (subst (λ n. int_eq n (pos 0) ≡ true) (sym (turn-origin y o)) (int_eq-refl (pos 0))) in absurd (cc)
 
       go : (b : Bool) → int_eq (turn d s x) (pos 0) ≡ b → pair φ (image keys k f (inverse keys k f) (turn d s) x) ≡ φ x
       go true e =
@@ -103,11 +99,8 @@ module _ (k : ℕ) (d : Exp) (s : ℤ) (f : Sum) (w : C.Wall d f) where
 
 -- a test that sees only keys which the crossing doesn't turn
 module _ (k : ℕ) (d : Exp) (s : ℤ) (f : Sum) (w : C.Wall d f) (φ : Key → ℤ) (v : Vanishes k φ) (still : (x : Key) → turn d s x ≢ pos 0 → φ x ≡ pos 0) where
-  int-refl : (y : ℤ) → int_eq y y ≡ true
-  int-refl y = grind (arith, ints)
-
   not_zero : (y : ℤ) → int_eq y (pos 0) ≡ false → y ≢ pos 0
-  not_zero y e q = let t : int_eq y (pos 0) ≡ true = subst (λ n. int_eq n (pos 0) ≡ true) (sym q) (int-refl (pos 0)) in absurd (cc)
+  not_zero y e q = let t : int_eq y (pos 0) ≡ true = subst (λ n. int_eq n (pos 0) ≡ true) (sym q) (int_eq-refl (pos 0)) in absurd (cc)
 
   image-still : (x : Key) → pair φ (image keys k f (inverse keys k f) (turn d s) x) ≡ φ x
   image-still x = go (int_eq (turn d s x) (pos 0)) refl
@@ -122,8 +115,8 @@ module _ (k : ℕ) (d : Exp) (s : ℤ) (f : Sum) (w : C.Wall d f) (φ : Key → 
   pub crossing-still : (g : Sum) → pair φ (crossing k d s f g) ≡ pair φ g
   crossing-still g = pair-bind φ g (image keys k f (inverse keys k f) (turn d s)) ∙ pair-ext _ _ g image-still
 
-pub auto-half : (k : ℕ) (h : Half) → Proper h.wall → Auto k (cross_half k h)
-auto-half k h p = record {
+pub half-automorphism : (k : ℕ) (h : Half) → Proper h.wall → IsAutomorphism k (cross_half k h)
+half-automorphism k h p = record {
   respects = half-respects k h p;
   products = λ f g.
       Eq-trans k _ _ _ (as_crossing k h p (mul f g))
@@ -142,6 +135,6 @@ auto-half k h p = record {
   );
 }
 
-pub auto-carry : (k : ℕ) (hs : List Half) → Every ProperHalf hs → Auto k (carry k hs)
-auto-carry k [] h = identity k
-auto-carry k (g ∷ hs) h = after k (cross_half k g) (carry k hs) (auto-half k g h.0) (auto-carry k hs h.1)
+pub carry-automorphism : (k : ℕ) (hs : List Half) → Every ProperHalf hs → IsAutomorphism k (carry k hs)
+carry-automorphism k [] h = identity k
+carry-automorphism k (g ∷ hs) h = after k (cross_half k g) (carry k hs) (half-automorphism k g h.0) (carry-automorphism k hs h.1)

@@ -3,13 +3,13 @@ use Rattle.std.proofs.Common.{◌≡◌, ℕ, refl, List, [], ◌∷◌, Bool, t
 use Rattle.std.specs.Prelude.{ℤ, pos, flat_map, nat_le}
 use Rattle.std.specs.List.{list_any}
 use native.Mathlib.Decide.{dec_le}
-use Rattle.std.proofs.lemmas.Int.{ints}
 use Rattle.scattering.specs.Collections.{In, Every, EveryPair}
-use Rattle.scattering.specs.Series.{Sum, Exp, Term, degree, rest, int_eq, det, z, monomial}
+use Rattle.scattering.specs.Series.{Sum, Exp, Term, degree, rest, det, z, monomial}
 use Rattle.scattering.specs.Plane.{Point, turns_before}
 use Rattle.scattering.specs.Wall.{Wall, is_on, crosses_to, are_parallel}
 use Rattle.scattering.specs.LocalProduct.{Half, along, carry, halves, image}
-use Rattle.scattering.proofs.Lists.{or-left, or-right, Every-implies, Every-flat_map, pairs-all, any-weaken, Every-from_In, Every-at}
+use Rattle.scattering.proofs.Lists.{Every-flat_map, pairs-all, any-weaken, Every-from_In, Every-at, or-left, or-right, Every-implies}
+use Rattle.scattering.proofs.Keys.{int_eq-same}
 use Rattle.crossing_theory.proofs.Translation.{Eq, Eq-trans}
 use Rattle.crossing_theory.proofs.HalfWalls.{Proper, Commutes, half, half-parallel, half-high, small}
 use Rattle.crossing_theory.proofs.Carrying.{halves-of, proper-halves, carry-in_order, carry-passes, Passes}
@@ -64,9 +64,6 @@ degrees k (s ∷ f) g hf hg e = go (degrees k f g hf.1 hg (or-right _ _ e)) (or-
         f_high = rw (nat_le-not (degree s.0) r.c (omega (arith, above))) r.f_high;
       }
     ]
-
-int_eq-same : (x y : ℤ) → int_eq x y ≡ true → x ≡ y
-int_eq-same x y e = grind (arith, ints)
 
 pub crosses-commute : (k : ℕ) (g h : Half) → Proper g.wall → Proper h.wall → crosses_to k g.wall h.wall ≡ false → Commutes k g h
 crosses-commute k g h p q e = go (are_parallel g.wall h.wall) refl

@@ -1,28 +1,16 @@
 -- The order by angle, and sorting a part of a list.
-use Rattle.std.proofs.Common.{◌≡◌, ◌≢◌, zero, suc, refl, subst, sym, ◌∙◌, ap, List, [], ◌∷◌, Bool, true, false, cond, not, ◌≤◌, ◌*◌, arith, inl, inr, ◌⊎◌}
-use Rattle.std.specs.Prelude.{ℤ, pos, negsuc, filter, ◌&&◌, ◌||◌, ◌*ℤ◌, ◌+ℤ◌, ◌-ℤ◌, neg_ℤ, ◌≤ℤ◌, int_lt}
+use Rattle.std.proofs.Common.{◌≡◌, ◌≢◌, refl, subst, sym, ◌∙◌, ap, List, [], ◌∷◌, Bool, true, false, cond, not, arith, inl, inr, ◌⊎◌}
+use Rattle.std.specs.Prelude.{ℤ, pos, filter, ◌&&◌, ◌||◌, ◌*ℤ◌, ◌+ℤ◌, ◌-ℤ◌, neg_ℤ, ◌≤ℤ◌, int_lt}
 use Rattle.std.proofs.lemmas.Int.{ints}
-use lib.IntN.{pos-*ℤ-pos}
 use Rattle.sum_algebra.proofs.Ring.{var, minus, nought, ring}
 use Rattle.sum_algebra.proofs.IntegerRing.{ints_ring, ◌:+◌, ◌:*◌, ◌:-◌, X, Y, Z}
 use Rattle.scattering.specs.Collections.{Every, EveryPair, put, in_order}
 use Rattle.scattering.specs.Series.{Exp, det, origin, int_eq}
 use Rattle.scattering.specs.Plane.{is_upper, turns_before}
 use Rattle.scattering.proofs.Lists.{Every-put, Every-in_order, Every-filter}
+use Rattle.plane_theory.proofs.WholeNumbers.{positive, not_negative}
 
 -- ---- signs
-
-pub times-above : (x y : ℤ) → pos 1 ≤ℤ x → pos 1 ≤ℤ y → pos 1 ≤ℤ (x *ℤ y)
-times-above (negsuc a) y p q = absurd (omega (arith, ints, p))
-times-above (pos a) (negsuc b) p q = absurd (omega (arith, ints, q))
-times-above (pos zero) (pos b) p q = absurd (omega (arith, ints, p))
-times-above (pos (suc a)) (pos zero) p q = absurd (omega (arith, ints, q))
-times-above (pos (suc a)) (pos (suc b)) p q = let e = pos-*ℤ-pos (suc a) (suc b) in let l : 1 ≤ suc a * suc b = omega arith in omega (arith, ints, e, l)
-
-times-not_below : (x y : ℤ) → pos 0 ≤ℤ x → pos 0 ≤ℤ y → pos 0 ≤ℤ (x *ℤ y)
-times-not_below (negsuc a) y p q = absurd (omega (arith, ints, p))
-times-not_below (pos a) (negsuc b) p q = absurd (omega (arith, ints, q))
-times-not_below (pos a) (pos b) p q = let e = pos-*ℤ-pos a b in omega (arith, ints, e)
 
 -- ---- the upper half
 
@@ -41,17 +29,17 @@ opposite-sums l r s p e q t = omega (arith, ints, p, e, q, t)
 
 between : (a b c : Exp) → Up a → Up b → Up c → pos 1 ≤ℤ det a c → det a b ≤ℤ pos 0 → det b c ≤ℤ pos 0 → ⊥
 between a b c ua (inl b_up) uc ac ab bc =
-    opposite-sums (det a c *ℤ b.b) (neg_ℤ (det a b) *ℤ c.b) (neg_ℤ (det b c) *ℤ a.b) (times-above (det a c) b.b ac b_up)
+    opposite-sums (det a c *ℤ b.b) (neg_ℤ (det a b) *ℤ c.b) (neg_ℤ (det b c) *ℤ a.b) (positive (det a c) b.b ac b_up)
     (ring ints_ring (a.a ∷ a.b ∷ b.a ∷ b.b ∷ c.a ∷ c.b ∷ []) ((X :* var 5 :- Y :* var 4) :* var 3) (minus (minus (X :* var 3 :- Y :* Z) :* var 5 :+ minus (Z :* var 5 :- var 3 :* var 4) :* Y)) refl)
-    (times-not_below _ _ (flip-sign (det a b) ab) (up-low c uc)) (times-not_below _ _ (flip-sign (det b c) bc) (up-low a ua))
+    (not_negative _ _ (flip-sign (det a b) ab) (up-low c uc)) (not_negative _ _ (flip-sign (det b c) bc) (up-low a ua))
 between a b c ua (inr flat) (inl c_up) ac ab bc =
     let e : det b c ≡ b.a *ℤ c.b = ap (λ y. b.a *ℤ c.b -ℤ y *ℤ c.a) flat.0 ∙ ring ints_ring (b.a ∷ c.b ∷ c.a ∷ []) (X :* Y :- nought :* Z) (X :* Y) refl in
-    let p = times-above b.a c.b flat.1 c_up in
+    let p = positive b.a c.b flat.1 c_up in
     omega (arith, ints, e, p, bc)
 between a b c ua (inr flat) (inr c_flat) ac ab bc =
     let e : det a c ≡ neg_ℤ (a.b *ℤ c.a) = ap (λ y. a.a *ℤ y -ℤ a.b *ℤ c.a) c_flat.0 ∙ ring ints_ring (a.a ∷ a.b ∷ c.a ∷ []) (X :* nought :- Y :* Z) (minus (Y :* Z)) refl in
     let q = c_flat.1 in
-    let p = times-not_below a.b c.a (up-low a ua) (omega (arith, ints, q)) in
+    let p = not_negative a.b c.a (up-low a ua) (omega (arith, ints, q)) in
     omega (arith, ints, e, p, ac)
 
 abbrev opp : Exp → Exp

@@ -1,17 +1,16 @@
--- two walls: parallel ones commute, and any two modulo high degree; a wall with a term more
-use Rattle.std.specs.Prelude.{◌≡◌, refl, ℕ, [], ◌∷◌, ◌++◌, ◌+◌, ◌≤◌}
-use Rattle.std.proofs.Common.{sym, ◌∙◌, ap}
-use lib.IntN.{ℤ, pos, negsuc, ◌+ℤ◌, ◌*ℤ◌, neg_ℤ}
-use Rattle.sum_algebra.proofs.Ring.{var, minus, nought, unit, ring}
-use Rattle.sum_algebra.proofs.IntegerRing.{ints_ring, ◌:+◌, ◌:*◌, ◌:-◌, X, Y, Z, W}
+-- Two walls: parallel ones commute, and any two modulo high degree.
+use Rattle.std.specs.Prelude.{◌≡◌, refl, ℕ, [], ◌∷◌, ◌+◌, ◌≤◌}
+use Rattle.std.proofs.Common.{◌∙◌}
+use lib.IntN.{ℤ, pos, ◌*ℤ◌}
+use Rattle.sum_algebra.proofs.Ring.{var, minus, nought, ring}
+use Rattle.sum_algebra.proofs.IntegerRing.{ints_ring, ◌:*◌, ◌:-◌, X, Y, Z, W}
 use Rattle.sum_algebra.proofs.Sums as S
 use Rattle.sum_algebra.proofs.Sums.{Keys, Same, pair, pair-append, pair-multiple, bind, multiple}
-use Rattle.sum_algebra.proofs.Support.{Every, by_every, one_minus, inverse, weaken}
-use Rattle.sum_algebra.proofs.Crossing.{list_int_power, mono}
+use Rattle.sum_algebra.proofs.Support.{inverse, weaken}
+use Rattle.sum_algebra.proofs.Crossing.{list_int_power}
 use Rattle.sum_algebra.proofs.CrossingLaws.{on_int_power, crosses-commute, fixes}
 use Rattle.sum_algebra.proofs.SmallCrossings.{commute-high, Same-lower}
-use Rattle.sum_algebra.proofs.Perturbation.{cross-perturbed}
-use Rattle.scattering.specs.Series.{Exp, Key, degree, det}
+use Rattle.scattering.specs.Series.{Exp, Key, det}
 use Rattle.crossing_theory.proofs.Keys.{Series, keys, Along, turn, Wall, crossing, along-one, along-mul, turn-add, wall-inverse, wall-along, inverse-along}
 
 module _ (k : ℕ) (m0 m1 : Exp) (s0 s1 : ℤ) (f0 f1 : Series) (w0 : Wall m0 f0) (w1 : Wall m1 f1) where
@@ -44,35 +43,3 @@ module _ (k : ℕ) (m0 m1 : Exp) (s0 s1 : ℤ) (f0 f1 : Series) (w0 : Wall m0 f0
     crossing-high j high g =
         commute-high keys j c0 c1 f0 (inverse keys k f0) f1 (inverse keys k f1) (turn m0 s0) (turn m1 s1)
         (Same-lower keys c0 k _ _ low0 (wall-inverse m0 s0 k f0 w0)) small0 (Same-lower keys c1 k _ _ low1 (wall-inverse m1 s1 k f1 w1)) small1 high g
-
--- a term c t^P z^m more, of degree j
-module _ (j : ℕ) (m0 : Exp) (s : ℤ) (f : Series) (p : Key) (c : ℤ) (wall : Wall m0 f) (wall' : Wall m0 (f ++ (p, c) ∷ [])) (positive : 1 ≤ j) (at_j : j ≤ degree p) where
-  abbrev pub one_more : Series
-  one_more = f ++ (p, c) ∷ []
-
-  pub crossing-perturbed : (g : Series) → Same keys j (crossing j m0 s one_more g) (crossing j m0 s f g ++ bind g (λ x. S.mul keys (mono keys x) (multiple (turn m0 s x) ((p, c) ∷ []))))
-  crossing-perturbed g =
-      cross-perturbed keys j f (inverse keys j f) one_more (inverse keys j one_more) ((p, c) ∷ []) (turn m0 s)
-      (wall-inverse m0 s j f wall) (wall-inverse m0 s j one_more wall') (record { at = λ φ v. refl }) positive
-      (record { at = λ φ ψ h. rw (h p at_j) })
-      (record {
-        at = λ φ ψ h.
-            pair-append φ f (S.neg keys (S.one keys)) ∙ flip φ ∙ ap neg_ℤ (wall.terms.at φ ψ (λ x i. h x i.0)) ∙ sym (flip ψ) ∙ sym (pair-append ψ f (S.neg keys (S.one keys)));
-      }) g
-    where
-      flip : (φ : Key → ℤ) → pair φ f +ℤ pair φ (S.neg keys (S.one keys)) ≡ neg_ℤ (pair φ (one_minus keys f))
-      flip φ = rw (pair-append φ (S.one keys) (S.neg keys f), pair-multiple φ (negsuc 0) f) (ring ints_ring (φ keys.e ∷ pair φ f ∷ []) (Y :+ (minus unit :* unit :* X :+ nought)) (minus ((unit :* X :+ nought) :+ minus unit :* Y)) refl)
-
--- the form in which the program has a wall function
-pub wall_from_list : (m0 : Exp) (h : Series) → Every (λ x. (1 ≤ degree x) × Along m0 x) h → Wall m0 ((keys.e, pos 1) ∷ h)
-wall_from_list m0 h all = record {
-  terms = record {
-    at = λ φ ψ a.
-        is_minus φ ∙ ap neg_ℤ ((by_every (λ x. (1 ≤ degree x) × Along m0 x) h all).at φ ψ a) ∙ sym (is_minus ψ);
-  };
-}
-  where
-    is_minus : (φ : Key → ℤ) → pair φ (one_minus keys ((keys.e, pos 1) ∷ h)) ≡ neg_ℤ (pair φ h)
-    is_minus φ =
-        rw (pair-multiple φ (negsuc 0) h)
-        (ring ints_ring (φ keys.e ∷ pair φ h ∷ []) (unit :* X :+ (minus unit :* unit :* X :+ minus unit :* Y)) (minus Y) refl)

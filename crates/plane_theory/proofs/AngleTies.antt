@@ -1,16 +1,15 @@
--- Directions that tie in the order of angles: positive multiples, and equal where both are primitive.
+-- Directions that tie in the order of angles: positive multiples, and equal where both are combination.
 use Rattle.std.proofs.Common.{◌≡◌, ◌≢◌, refl, sym, ap, ◌∙◌, inl, inr, arith, Bool, true, false}
-use Rattle.std.specs.Prelude.{ℤ, pos, ◌+ℤ◌, ◌-ℤ◌, ◌*ℤ◌, neg_ℤ, ◌≤ℤ◌, IsTrue, nat_abs}
+use Rattle.std.specs.Prelude.{ℤ, pos, ◌+ℤ◌, ◌-ℤ◌, ◌*ℤ◌, neg_ℤ, ◌≤ℤ◌, IsTrue}
 use Rattle.std.proofs.lemmas.Int.{ints}
-use Rattle.std.proofs.lemmas.Nat.Gcd.{same_from_IsGcd}
 use Rattle.scattering.proofs.Ring.{dif-up, dif-pos, dif-add, dif-neg, dif-mul, dif-same}
-use Rattle.scattering.proofs.Bezout.{bezout}
 use Rattle.scattering.specs.Series.{Exp, origin, det, dot}
 use Rattle.scattering.specs.Plane.{IsDirection, is_upper, turns_before}
 use Rattle.plane_theory.proofs.WholeNumbers.{cancel, dif-below, positive, positive_of, follows, follows3, zero_of}
 use Rattle.plane_theory.proofs.Points.{norm-positive}
-use Rattle.plane_theory.proofs.LowestTerms.{at_least, abs-sign}
+use Rattle.plane_theory.proofs.LowestTerms.{at_least}
 use Rattle.plane_theory.proofs.Angles.{IsUpper, upper-out, lower-out, turned, det-turned, turns-in, tie}
+use Rattle.plane_theory.proofs.Directions.{combination}
 
 -- |e|²·d = (d·e)·e where det d e = 0
 along-a : (a b c d : ℤ) → a *ℤ d -ℤ b *ℤ c ≡ pos 0 → (c *ℤ c +ℤ d *ℤ d) *ℤ a ≡ (a *ℤ c +ℤ b *ℤ d) *ℤ c
@@ -74,18 +73,11 @@ ties-are-multiples d e l m h k =
       b = along-b d.a d.b e.a e.b t.1;
     }
 
--- ---- primitive ones
+-- ---- combination ones
 combine : (x y x' y' s s' u v : ℤ) → x' ≡ s *ℤ x → y' ≡ s' *ℤ y → u *ℤ x' +ℤ v *ℤ y' ≡ pos 1 → (u *ℤ s) *ℤ x +ℤ (v *ℤ s') *ℤ y ≡ pos 1
 combine x y x' y' s s' u v a b c =
     rw (dif-up x, dif-up y, dif-up s, dif-up s', dif-up u, dif-up v) (simp (dif-mul, dif-add) (dif-same _ _ _ _ (omega arith)))
     ∙ ap (λ z. u *ℤ z +ℤ v *ℤ (s' *ℤ y)) (sym a) ∙ ap (λ z. u *ℤ x' +ℤ v *ℤ z) (sym b) ∙ c
-
-pub primitive : (d : Exp) → IsDirection d → (u v : ℤ) × (u *ℤ d.a +ℤ v *ℤ d.b ≡ pos 1)
-primitive d h =
-    let b = bezout (nat_abs d.a) (nat_abs d.b) in
-    let e : b.g ≡ 1 = same_from_IsGcd (nat_abs d.a) (nat_abs d.b) b.g 1 b.gcd h in
-    let x = abs-sign d.a in let y = abs-sign d.b in
-    (b.u *ℤ x.0, b.v *ℤ y.0, combine d.a d.b _ _ x.0 y.0 b.u b.v x.1 y.1 (b.is ∙ ap pos e))
 
 times : (j k da db ea eb u v : ℤ) → j *ℤ da ≡ k *ℤ ea → j *ℤ db ≡ k *ℤ eb → u *ℤ da +ℤ v *ℤ db ≡ pos 1 → j ≡ k *ℤ (u *ℤ ea +ℤ v *ℤ eb)
 times j k da db ea eb u v a b c =
@@ -94,7 +86,7 @@ times j k da db ea eb u v a b c =
 
 pub multiples-equal : (d e : Exp) → IsDirection d → IsDirection e → AreMultiples d e → d ≡ e
 multiples-equal d e h i m =
-    let p = primitive d h in let q = primitive e i in
+    let p = combination d h in let q = combination e i in
     let l = at_least m.k m.j _ m.second m.first (times m.j m.k d.a d.b e.a e.b p.0 p.1 m.a m.b p.2) in
     let r = at_least m.j m.k _ m.first m.second (times m.k m.j e.a e.b d.a d.b q.0 q.1 (sym m.a) (sym m.b) q.2) in
     let s : m.j ≡ m.k = omega (arith, ints, l, r) in

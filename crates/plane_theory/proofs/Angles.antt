@@ -6,18 +6,11 @@ use Rattle.scattering.proofs.Ring.{dif-up, dif-pos, dif-add, dif-neg, dif-mul, d
 use Rattle.scattering.specs.Series.{Exp, origin, det, int_eq}
 use Rattle.scattering.specs.Plane.{is_upper, turns_before}
 use Rattle.plane_theory.proofs.WholeNumbers.{positive, positive_of, sign}
+use Rattle.plane_theory.proofs.PointOrder.{or-and}
 
 -- upper: the second number is above 0, or 0 with the first above 0;  else both are turned
 abbrev pub IsUpper : Exp → Type 0
 IsUpper d = (pos 1 ≤ℤ d.b) ⊎ ((d.b ≡ pos 0) × (pos 1 ≤ℤ d.a))
-
-or-and : (x y z : Bool) → (x || (y && z)) ≡ true → (x ≡ true) ⊎ ((y ≡ true) × (z ≡ true))
-or-and true y z h = inl refl
-or-and false true z h = inr (refl, h)
-or-and false false z h = cc
-
-lt-out : (a b : ℤ) → int_lt a b ≡ true → pos 1 ≤ℤ (b -ℤ a)
-lt-out a b h = omega (arith, ints, h)
 
 pub upper-out : (d : Exp) → is_upper d ≡ true → IsUpper d
 upper-out d h = go (or-and (int_lt (pos 0) d.b) (int_eq d.b (pos 0)) (int_lt (pos 0) d.a) h)

@@ -186,3 +186,16 @@ as_multiple e n = go (bezout (nat_abs e.a) (nat_abs e.b)) (abs-parts e.a) (abs-p
 
 pub det-scale : (g : ℤ) (d m : Exp) → det (scale g d) m ≡ g *ℤ det d m
 det-scale g d m = ring ints_ring (g ∷ d.a ∷ d.b ∷ m.a ∷ m.b ∷ []) ((X :* Y) :* var 4 :- (X :* Z) :* var 3) (X :* (Y :* var 4 :- Z :* var 3)) refl
+
+pub direction-not_origin : (d : Exp) → IsDirection d → d ≢ origin
+direction-not_origin d h e =
+    let c = combination d h in
+    let q : c.0 *ℤ pos 0 +ℤ c.1 *ℤ pos 0 ≡ pos 1 = subst (λ (x : Exp). c.0 *ℤ x.a +ℤ c.1 *ℤ x.b ≡ pos 1) e c.2 in
+    let r : c.0 *ℤ pos 0 +ℤ c.1 *ℤ pos 0 ≡ pos 0 = ring ints_ring (c.0 ∷ c.1 ∷ []) (X :* nought :+ Y :* nought) nought refl in
+    let s : pos 1 ≡ pos 0 = sym q ∙ r in absurd (omega (arith, ints, s))
+
+pub scale-not_origin : (s : ℤ) (d : Exp) → s ≢ pos 0 → d ≢ origin → scale s d ≢ origin
+scale-not_origin s d n h e =
+    let a : d.a ≡ pos 0 = zero-factor s d.a n (ap (λ (x : Exp). x.a) e) in
+    let b : d.b ≡ pos 0 = zero-factor s d.b n (ap (λ (x : Exp). x.b) e) in
+    h (λ i. record { a = a i; b = b i })

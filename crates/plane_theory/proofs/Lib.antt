@@ -9,4 +9,7 @@ pub mod PlacesOnWalls
 pub mod PointOrder
 pub mod Points
 pub mod Reduction
+pub mod StatedLaws
+pub mod StrictOrder
+pub mod TotalOrder
 pub mod WholeNumbers

@@ -1,26 +1,17 @@
 -- The test of a place on a wall says what the definition says.
-use Rattle.std.proofs.Common.{◌≡◌, ◌≢◌, refl, sym, ap, ◌∙◌, arith, Bool, true}
-use Rattle.std.specs.Prelude.{ℤ, pos, ◌+ℤ◌, ◌*ℤ◌, neg_ℤ, ◌≤ℤ◌, IsTrue, nat_abs, ◌&&◌}
-use Rattle.std.specs.Int.{◌∣◌}
+use Rattle.std.proofs.Common.{◌≡◌, refl, sym, ap, ◌∙◌, arith, true}
+use Rattle.std.specs.Prelude.{ℤ, pos, ◌+ℤ◌, ◌*ℤ◌, neg_ℤ, ◌≤ℤ◌, IsTrue}
 use Rattle.std.proofs.lemmas.Int.{ints}
-use Rattle.std.proofs.lemmas.Nat.Gcd.{dvd-zero, le_of_dvd}
 use Rattle.scattering.proofs.Ring.{dif-up, dif-neg, dif-mul, dif-same}
-use Rattle.scattering.specs.Series.{Exp, origin, det, dot, int_eq}
-use Rattle.scattering.specs.Plane.{IsDirection, difference}
+use Rattle.scattering.specs.Series.{det, dot, int_eq}
+use Rattle.scattering.specs.Plane.{difference}
 use Rattle.scattering.specs.Wall.{WallKind, Line, Incoming, Outgoing, allows, On, is_on}
-use Rattle.scattering.proofs.Lists.{and-left, and-right}
+use Rattle.scattering.proofs.Lists.{and-in, and-left, and-right}
+use Rattle.scattering.proofs.Keys.{int_eq-same}
+use Rattle.plane_theory.proofs.Directions.{direction-not_origin}
 use Rattle.plane_theory.proofs.WholeNumbers.{positive, not_negative, not_negative_of}
 use Rattle.plane_theory.proofs.Points.{at-onto, onto-at, onto-det, onto-dot, dot-onto, norm-positive}
 use Rattle.plane_theory.specs.Laws.{OnIsDecided}
-
-two : 2 ∣ 1 → ⊥
-two h = let k = le_of_dvd {m = 2} {n = 1} (omega arith) h in omega (arith, k)
-
-pub direction-moves : (d : Exp) → IsDirection d → d ≢ origin
-direction-moves d h e =
-    let a : nat_abs d.a ≡ 0 = ap (λ (u : Exp). nat_abs u.a) e in
-    let b : nat_abs d.b ≡ 0 = ap (λ (u : Exp). nat_abs u.b) e in
-    two (h.2 2 (rw a (dvd-zero 2)) (rw b (dvd-zero 2)))
 
 -- where d·x = n·u, x has the sign of n
 sign-up : (d x n u : ℤ) → pos 1 ≤ℤ d → pos 1 ≤ℤ u → d *ℤ x ≡ n *ℤ u → pos 0 ≤ℤ n → pos 0 ≤ℤ x
@@ -47,13 +38,7 @@ allows-same Line d x n u h l e a = refl
 allows-same Incoming d x n u h l e a = let r = sign-up d x n u h l e (omega (arith, ints, a)) in grind (arith, ints, r)
 allows-same Outgoing d x n u h l e a = let r = sign-down d x n u h l e (omega (arith, ints, a)) in grind (arith, ints, r)
 
-both : (a b : Bool) → a ≡ true → b ≡ true → (a && b) ≡ true
-both a b h k = rw (h, k)
-
-equal-out : (a b : ℤ) → int_eq a b ≡ true → a ≡ b
-equal-out a b h = grind (arith, ints)
-
-zero-in : (a : ℤ) → a ≡ pos 0 → int_eq a (pos 0) ≡ true
+pub zero-in : (a : ℤ) → a ≡ pos 0 → int_eq a (pos 0) ≡ true
 zero-in a h = rw h
 
 pub on-is-decided : OnIsDecided
@@ -61,18 +46,18 @@ on-is-decided n w p wall point = (forth, back)
   where
     forth : IsTrue (is_on w p) → On w p
     forth h =
-        let e = equal-out (det w.dir (difference w.at p)) (pos 0) (and-left (int_eq (det w.dir (difference w.at p)) (pos 0)) (allows w.kind (dot w.dir (difference w.at p))) h) in
+        let e = int_eq-same (det w.dir (difference w.at p)) (pos 0) (and-left (int_eq (det w.dir (difference w.at p)) (pos 0)) (allows w.kind (dot w.dir (difference w.at p))) h) in
         let a = and-right (int_eq (det w.dir (difference w.at p)) (pos 0)) (allows w.kind (dot w.dir (difference w.at p))) h in (
           dot w.dir (difference w.at p),
           (w.dir.a *ℤ w.dir.a +ℤ w.dir.b *ℤ w.dir.b) *ℤ (w.at.w *ℤ p.w),
           a,
-          onto-at w.at w.dir _ _ p wall.point.below point.below (dot-onto w.at w.dir p (norm-positive w.dir (direction-moves w.dir wall.direction)) e),
+          onto-at w.at w.dir _ _ p wall.point.below point.below (dot-onto w.at w.dir p (norm-positive w.dir (direction-not_origin w.dir wall.direction)) e),
         )
 
     back : On w p → IsTrue (is_on w p)
     back h =
         let o = at-onto w.at w.dir h.0 h.1 p h.3 in
-        let u = positive _ _ (positive w.at.w p.w wall.point.below point.below) (norm-positive w.dir (direction-moves w.dir wall.direction)) in
+        let u = positive _ _ (positive w.at.w p.w wall.point.below point.below) (norm-positive w.dir (direction-not_origin w.dir wall.direction)) in
         let e = onto-dot w.at w.dir _ h.1 p o ∙ grouped h.0 (w.at.w *ℤ p.w) (w.dir.a *ℤ w.dir.a +ℤ w.dir.b *ℤ w.dir.b) in
-        both (int_eq (det w.dir (difference w.at p)) (pos 0)) (allows w.kind (dot w.dir (difference w.at p))) (zero-in _ (onto-det w.at w.dir _ h.1 p o))
+        and-in (int_eq (det w.dir (difference w.at p)) (pos 0)) (allows w.kind (dot w.dir (difference w.at p))) (zero-in _ (onto-det w.at w.dir _ h.1 p o))
         (allows-same w.kind h.1 (dot w.dir (difference w.at p)) h.0 _ o.below u e h.2)

@@ -15,7 +15,7 @@ IsAbove v = (pos 1 ≤ℤ v.a) ⊎ ((v.a ≡ pos 0) × (pos 1 ≤ℤ v.b))
 abbrev IsZeroOrMore : ℤ → Type 0
 IsZeroOrMore a = (pos 1 ≤ℤ a) ⊎ (a ≡ pos 0)
 
-or-and : (x y z : Bool) → (x || (y && z)) ≡ true → (x ≡ true) ⊎ ((y ≡ true) × (z ≡ true))
+pub or-and : (x y z : Bool) → (x || (y && z)) ≡ true → (x ≡ true) ⊎ ((y ≡ true) × (z ≡ true))
 or-and true y z h = inl refl
 or-and false true z h = inr (refl, h)
 or-and false false z h = cc
@@ -26,7 +26,7 @@ and-or false y z (inl h) = cc
 and-or false true z (inr h) = h.1
 and-or false false z (inr h) = h.0
 
-lt-out : (a b : ℤ) → int_lt a b ≡ true → pos 1 ≤ℤ (b -ℤ a)
+pub lt-out : (a b : ℤ) → int_lt a b ≡ true → pos 1 ≤ℤ (b -ℤ a)
 lt-out a b h = omega (arith, ints, h)
 
 lt-in : (a b : ℤ) → pos 1 ≤ℤ (b -ℤ a) → int_lt a b ≡ true

@@ -6,16 +6,16 @@ use Rattle.scattering.specs.Series.{Exp, Powers, Key, Term, int_eq, exp_eq, powe
 use Rattle.scattering.specs.Plane.{Point, point_eq}
 use Rattle.scattering.proofs.Lists.{and-left, and-right}
 
-int_eq-refl : (x : ℤ) → int_eq x x ≡ true
+pub int_eq-refl : (x : ℤ) → int_eq x x ≡ true
 int_eq-refl x = grind (arith, ints)
 
-same-exp : (u v : Exp) → u.a ≡ v.a → u.b ≡ v.b → u ≡ v
+pub same-exp : (u v : Exp) → u.a ≡ v.a → u.b ≡ v.b → u ≡ v
 same-exp u v p q = λ i. record { a = p i; b = q i }
 
 pub exp_eq-same : (u v : Exp) → exp_eq u v ≡ true → u ≡ v
 exp_eq-same u v e = same-exp u v (grind (arith, ints)) (grind (arith, ints))
 
-same-powers : (p q : Powers) → p.t1 ≡ q.t1 → p.t2 ≡ q.t2 → p.t3 ≡ q.t3 → p.t4 ≡ q.t4 → p.t5 ≡ q.t5 → p.t6 ≡ q.t6 → p.t7 ≡ q.t7 → p.t8 ≡ q.t8 → p ≡ q
+pub same-powers : (p q : Powers) → p.t1 ≡ q.t1 → p.t2 ≡ q.t2 → p.t3 ≡ q.t3 → p.t4 ≡ q.t4 → p.t5 ≡ q.t5 → p.t6 ≡ q.t6 → p.t7 ≡ q.t7 → p.t8 ≡ q.t8 → p ≡ q
 same-powers p q a b c d e f g h = λ i. record { t1 = a i; t2 = b i; t3 = c i; t4 = d i; t5 = e i; t6 = f i; t7 = g i; t8 = h i }
 
 pub powers_eq-same : (p q : Powers) → powers_eq p q ≡ true → p ≡ q

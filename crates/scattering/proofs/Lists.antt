@@ -157,15 +157,28 @@ pub Every-mapped : {A : Type 0} (P : A → Type 0) (f : A → A) (xs : List A) �
 Every-mapped P f [] i h = tt
 Every-mapped P f (x ∷ xs) i h = (i x h.0, Every-mapped P f xs i h.1)
 
-or-true : (a b : Bool) → b ≡ true → (a || b) ≡ true
-or-true true b e = refl
-or-true false b e = e
+pub or-second : (a b : Bool) → b ≡ true → (a || b) ≡ true
+or-second true b e = refl
+or-second false b e = e
+
+pub or-first : (a b : Bool) → a ≡ true → (a || b) ≡ true
+or-first true b e = refl
+or-first false b e = absurd (cc)
+
+pub bool_iff : (a b : Bool) → (a ≡ true → b ≡ true) → (b ≡ true → a ≡ true) → a ≡ b
+bool_iff true b f g = sym (f refl)
+bool_iff false true f g = g refl
+bool_iff false false f g = refl
+
+pub not-true : (b : Bool) → (b ≡ true → ⊥) → b ≡ false
+not-true true h = absurd (h refl)
+not-true false h = refl
 
 -- a test that some element passes
 pub any-true : {A : Type 0} (P : A → Bool) (xs : List A) (x : A) → In x xs → P x ≡ true → list_any P xs ≡ true
 any-true P [] x i e = absurd i
 any-true P (y ∷ ys) x (inl q) e = ap (λ (b : Bool). b || list_any P ys) (sym (ap P q) ∙ e)
-any-true P (y ∷ ys) x (inr i) e = or-true (P y) (list_any P ys) (any-true P ys x i e)
+any-true P (y ∷ ys) x (inr i) e = or-second (P y) (list_any P ys) (any-true P ys x i e)
 
 pub any-some : {A : Type 0} (P : A → Bool) (xs : List A) → list_any P xs ≡ true → (x : A) × In x xs × (P x ≡ true)
 any-some {A = A} P [] e = absurd (cc)

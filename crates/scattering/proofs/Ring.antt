@@ -3,7 +3,6 @@ use Rattle.std.proofs.Common.{◌≡◌, ℕ, ap, ◌+◌, ◌*◌, arith}
 use Rattle.std.specs.Prelude.{ℤ, pos, ◌+ℤ◌, ◌-ℤ◌, ◌*ℤ◌, neg_ℤ}
 use Rattle.std.proofs.lemmas.Int.{ints}
 use borrow.Author.Differences.{up, down}
-use Rattle.scattering.specs.Series.{Exp, det, exp_add, scale}
 
 -- a - b
 pub dif : ℕ → ℕ → ℤ
@@ -24,10 +23,6 @@ dif-add a b c d = omega (arith, ints)
 pub dif-neg : (a b : ℕ) → neg_ℤ (dif a b) ≡ dif b a
 unfolding dif
 dif-neg a b = omega (arith, ints)
-
-pub dif-sub : (a b c d : ℕ) → dif a b -ℤ dif c d ≡ dif (a + d) (b + c)
-unfolding dif
-dif-sub a b c d = omega (arith, ints)
 
 pub dif-same : (a b c d : ℕ) → a + d ≡ c + b → dif a b ≡ dif c d
 unfolding dif
@@ -51,29 +46,3 @@ by_parts x y a b c d e f = omega (arith, ints, products a b c d (up x) (down x) 
 
 pub dif-mul : (a b c d : ℕ) → dif a b *ℤ dif c d ≡ dif (a * c + b * d) (a * d + b * c)
 dif-mul a b c d = by_parts (dif a b) (dif c d) a b c d (up-dif a b) (up-dif c d)
-
--- an identity holds at all whole numbers if it holds at all differences
-pub at2 : (P : ℤ → ℤ → Type 0) → ((a a' b b' : ℕ) → P (dif a a') (dif b b')) → (x y : ℤ) → P x y
-at2 P h x y = rw (dif-up x, dif-up y) (h (up x) (down x) (up y) (down y))
-
-distr' : (a a' b b' c c' : ℕ) → dif a a' *ℤ (dif b b' +ℤ dif c c') ≡ dif a a' *ℤ dif b b' +ℤ dif a a' *ℤ dif c c'
-distr' a a' b b' c c' = simp (dif-mul, dif-add, dif-neg) (dif-same _ _ _ _ (omega arith))
-
-three' : (a a' b b' c c' d d' e e' f f' : ℕ) → (dif a a' *ℤ dif d d' -ℤ dif b b' *ℤ dif c c') *ℤ (dif e e' -ℤ dif f f') ≡ dif a a' *ℤ dif d d' *ℤ dif e e' -ℤ dif b b' *ℤ dif c c' *ℤ dif e e' -ℤ dif a a' *ℤ dif d d' *ℤ dif f f' +ℤ dif b b' *ℤ dif c c' *ℤ dif f f'
-three' a a' b b' c c' d d' e e' f f' = simp (dif-mul, dif-add, dif-neg) (dif-same _ _ _ _ (omega arith))
-
-distr : (a b c : ℤ) → a *ℤ (b +ℤ c) ≡ a *ℤ b +ℤ a *ℤ c
-distr a b c = rw (dif-up a, dif-up b, dif-up c) (simp (dif-mul, dif-add, dif-neg) (dif-same _ _ _ _ (omega arith)))
-
-det-add : (u v w : Exp) → det u (exp_add v w) ≡ det u v +ℤ det u w
-det-add u v w = rw (dif-up u.a, dif-up u.b, dif-up v.a, dif-up v.b, dif-up w.a, dif-up w.b) (simp (dif-mul, dif-add, dif-neg) (dif-same _ _ _ _ (omega arith)))
-
-det-scale : (u v : Exp) (j : ℤ) → det u (scale j v) ≡ j *ℤ det u v
-det-scale u v j = rw (dif-up u.a, dif-up u.b, dif-up v.a, dif-up v.b, dif-up j) (simp (dif-mul, dif-add, dif-neg) (dif-same _ _ _ _ (omega arith)))
-
-det-self : (u : Exp) (j : ℤ) → det u (scale j u) ≡ pos 0
-det-self u j = rw (dif-up u.a, dif-up u.b, dif-up j) (simp (dif-mul, dif-add, dif-neg, dif-pos) (dif-same _ _ _ _ (omega arith)))
-
--- an equation that follows from another by a factor: hand it over as one of naturals
-plucker : (a b c : Exp) → det a b *ℤ c.a +ℤ det b c *ℤ a.a +ℤ det c a *ℤ b.a ≡ pos 0
-plucker a b c = rw (dif-up a.a, dif-up a.b, dif-up b.a, dif-up b.b, dif-up c.a, dif-up c.b) (simp (dif-mul, dif-add, dif-neg, dif-pos) (dif-same _ _ _ _ (omega arith)))

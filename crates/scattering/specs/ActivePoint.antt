@@ -1,4 +1,7 @@
 -- Active points, at which the next order changes rays, and special points, which broken lines avoid.
+--     is_active n ws p          walls cross at p with least degrees that sum to at most n, or an incoming ray starts there
+--     is_special ws p           live walls cross at p, or a live ray starts there
+--     is_newly_active n ws p    as active, with the least degrees summing to n exactly
 use Rattle.std.specs.Prelude.{ℕ, ◌+◌, nat_lt, Bool, true, false, ◌&&◌, ◌||◌, not, List, filter}
 use Rattle.std.specs.List.{list_any}
 use Rattle.scattering.specs.Series.{degree, rest}

@@ -1,4 +1,7 @@
--- Broken lines.
+-- Broken lines, forwards: from infinity to the point where they end.
+--     Bend, IsBend              a point and a key; a bend that the walls on the point allow
+--     IsBrokenLine ws n m q     a list of bends is a broken line with the first exponent m that ends at q, among ws cut to degree n
+--     value ws n m bends        its final monomial, with its coefficient
 use Rattle.std.specs.Prelude.{◌≢◌, ℕ, ◌+◌, ◌≤◌, ◌&&◌, IsFalse, List, [], ◌∷◌, map, filter, ℤ, pos, ◌*ℤ◌, nat_abs, neg_ℤ, Option, Some, None}
 use Rattle.scattering.specs.Series.{Exp, Powers, Key, Term, Sum, origin, exp_add, scale, det, degree, powers_add, no_powers, coef, one, mul, pow, absolute}
 use Rattle.scattering.specs.Plane.{Point, IsPoint, FromOn, Beyond}

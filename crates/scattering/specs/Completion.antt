@@ -1,4 +1,8 @@
 -- Reduced rays, and the completion of initial walls.
+--     IsReduced rays            live, and in the order of starts and directions, so no two have both
+--     IsConsistent k ws         consistent at every point with rational coordinates
+--     IsCompletion given k e    e is the completion of the walls `given` at order k
+--     lowered n e               e cut to the lower order n
 use Rattle.std.specs.Prelude.{◌≡◌, ℕ, Bool, ◌&&◌, ◌||◌, IsTrue, List, filter}
 use Rattle.scattering.specs.Collections.{Every, EveryPair}
 use Rattle.scattering.specs.Series.{exp_before}

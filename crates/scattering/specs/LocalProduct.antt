@@ -1,4 +1,10 @@
 -- Crossings, the half-walls at a point, the local product and the weight.
+--     cross k d f s g           z^m becomes z^m·f^(s·det(d, m)), modulo degree k + 1
+--     half_walls ws p           the half-walls at p, counter-clockwise
+--     image ws p k m            z^m after all of them
+--     IsConsistentAt ws k p     z^(1, 0) and z^(0, 1) are as they were
+--     weight ws p k             all coefficients of both images, by majorants
+-- Near its start a ray has one half-wall, the one along which it goes; at any other point of it, two.
 use Rattle.std.specs.Prelude.{ℕ, ◌+◌, not, ◌&&◌, ◌||◌, List, [], ◌∷◌, map, filter, flat_map, ℤ, pos, negsuc, ◌*ℤ◌, neg_ℤ, nat_abs}
 use Rattle.scattering.specs.Collections.{in_order}
 use Rattle.scattering.specs.Series.{Exp, scale, det, z, Sum, mul, monomial, power, geometric, pow, mass_to, SameTo}

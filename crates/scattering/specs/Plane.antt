@@ -1,4 +1,9 @@
 -- Points of the plane with rational numbers, and places along a line.
+--     Point, IsPoint            (x/w, y/w); in lowest terms, w at least 1
+--     IsDirection d             the gcd of d's numbers is 1
+--     IsNear p                  the numbers of p are at most 2^40
+--     FromOn p e q, Beyond p e q       q = p + s·e with s at least 0; with s above 0
+--     point_before, turns_before       the order of points; the order by angle, from (1, 0) itself
 use Rattle.std.specs.Prelude.{◌≡◌, ℕ, ◌≤◌, ◌^◌, nat_abs, Bool, not, ◌&&◌, ◌||◌, ℤ, pos, ◌+ℤ◌, ◌-ℤ◌, ◌*ℤ◌, int_lt, ◌≤ℤ◌}
 use Rattle.std.specs.Int.{◌∣◌, IsGcd}
 use Rattle.scattering.specs.Series.{Exp, int_eq, det}

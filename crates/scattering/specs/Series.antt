@@ -1,4 +1,6 @@
 -- Formal sums of terms c·t^P·z^m, and series, which are sums in one form.
+-- `rest`, `absolute` and `mass_to` read the list of terms as it stands. They mean f - 1, |f| and the mass of |f|
+-- where no key stands twice and no coefficient is 0, as in a series.
 --     coef f k               the coefficient of f at the key k; sums are compared by it
 --     SameTo k f g           f and g are equal modulo degree k + 1
 --     f ++ g, mul n f g, power n f i     the sum, the product, a power;  from mul on all is modulo degree n + 1

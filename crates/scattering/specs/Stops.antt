@@ -1,4 +1,7 @@
 -- What stops an order: the first cause, and the first order with one.
+--     IsStopAt given n stop         what stops order n, or nothing
+--     IsFirstStop given k stop      the first order up to k that is stopped, with its cause, or none
+--     last_before k stop            the last order that is completed
 use Rattle.std.specs.Prelude.{◌≡◌, ℕ, zero, suc, ◌+◌, ◌<◌, ◌≤◌, ◌^◌, IsTrue, List, length, Option, Some, None}
 use Rattle.scattering.specs.Plane.{Point, IsPoint, IsNear}
 use Rattle.scattering.specs.Wall.{Wall, Diagram, walls}

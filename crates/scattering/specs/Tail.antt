@@ -1,8 +1,12 @@
 -- Reach, and the tails that are traced backwards from a point.
-use Rattle.std.specs.Prelude.{◌≡◌, ◌≢◌, ℕ, ◌+◌, ◌*◌, ◌≤◌, IsFalse, List, [], ◌∷◌, reverse}
+--     IsReach ws b d n          the least total degree of terms whose exponents sum to d is n
+--     IsTail ws b m q t         t is a tail for m at q, within the limit b
+--     IsComplete m t            its last exponent is m;  backwards turns a broken line into such a tail
+--     tail_weight, tail_before  its weight; the order of tails
+use Rattle.std.specs.Prelude.{Bool, true, false, ◌&&◌, ◌||◌, ◌≡◌, ◌≢◌, ℕ, ◌+◌, ◌*◌, ◌≤◌, IsFalse, List, [], ◌∷◌, reverse}
 use Rattle.scattering.specs.Collections.{In, Every}
-use Rattle.scattering.specs.Series.{Exp, Term, origin, exp_add, exp_sub, degree, rest, mass_to}
-use Rattle.scattering.specs.Plane.{Point, IsNear, Beyond}
+use Rattle.scattering.specs.Series.{exp_eq, exp_before, key_eq, key_before, Exp, Term, origin, exp_add, exp_sub, degree, rest, mass_to}
+use Rattle.scattering.specs.Plane.{point_eq, point_before, Point, IsNear, Beyond}
 use Rattle.scattering.specs.Wall.{Wall, cut_walls}
 use Rattle.scattering.specs.ActivePoint.{is_special}
 use Rattle.scattering.specs.BrokenLine.{Bend, IsBend, bend_majorant}
@@ -67,6 +71,25 @@ last_point p (c ∷ cs) = last_point c.at cs
 
 abbrev pub IsComplete : Exp → Tail → Type 0
 IsComplete m t = last t.root t.bends ≡ m
+
+abbrev pub is_complete : Exp → Tail → Bool
+is_complete m t = exp_eq (last t.root t.bends) m
+
+-- ---- the order of tails: by root, then by bends, where a list is before those that it begins
+
+abbrev pub bend_before : Bend → Bend → Bool
+bend_before b c = point_before b.at c.at || (point_eq b.at c.at && key_before b.key c.key)
+
+abbrev pub bend_eq : Bend → Bend → Bool
+bend_eq b c = point_eq b.at c.at && key_eq b.key c.key
+
+abbrev pub bends_before : List Bend → List Bend → Bool
+bends_before bs [] = false
+bends_before [] (c ∷ cs) = true
+bends_before (b ∷ bs) (c ∷ cs) = bend_before b c || (bend_eq b c && bends_before bs cs)
+
+abbrev pub tail_before : Tail → Tail → Bool
+tail_before s t = exp_before s.root t.root || (exp_eq s.root t.root && bends_before s.bends t.bends)
 
 -- a broken line read backwards: its last exponent is the root
 abbrev pub end_exp : Exp → List Bend → Exp

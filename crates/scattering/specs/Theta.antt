@@ -1,4 +1,7 @@
 -- Theta functions, and the faults of asking for one.
+--     IsTheta ws n m q s            s is the theta of m at q: the sum of the values of all broken lines, each once
+--     IsAskFault ws n m q fault     the first check that fails, or none
+-- For m = (0, 0) the theta is 1 and only the first check is made: no tails are traced, and its weight is 1.
 use Rattle.std.specs.Prelude.{◌≡◌, ◌≢◌, ℕ, ◌+◌, ◌<◌, ◌≤◌, ◌^◌, ◌⊎◌, Bool, true, IsTrue, List, [], ◌∷◌, map, pos, Option, Some, None}
 use Rattle.std.specs.Bool.{MatchBool}
 use Rattle.std.specs.List.{list_any}

@@ -1,4 +1,7 @@
 -- The product of two thetas as a family of thetas.
+--     IsFamily ws k l r q a             the family a fits: its sum of a_r·theta_r is the product of the thetas of l and r
+--     Runs ws k q s first d a n         d steps lead to the family a with the running weight n, without a fault
+--     IsProductFault ws k l r q fault   the first fault of the product, or none
 -- A family is one series: its term c·t^P·z^r is the term c·t^P of the series at r.
 use Rattle.std.specs.Prelude.{◌≡◌, ◌≢◌, ℕ, suc, ◌+◌, ◌*◌, ◌-◌, ◌<◌, ◌≤◌, ◌^◌, ◌⊎◌, ◌==◌, IsTrue, List, [], ◌∷◌, ◌++◌, filter, flat_map, nat_abs, pos, Option, Some, None}
 use Rattle.std.specs.Bool.{MatchBool}
@@ -46,22 +49,36 @@ IsNext ws k q s d a b = IsSeries k b × ((thetas : Exp → Sum) × AreThetas ws 
     × ((x : Key) → degree x ≡ d → coef b x ≡ coef (a ++ s ++ minus (combined k thetas a)) x)
     × ((x : Key) → degree x ≢ d → coef b x ≡ coef a x))
 
+-- w has the weight of each theta of the family
+abbrev pub AreWeights : List Wall → ℕ → Point → Sum → (Exp → ℕ) → Type 0
+AreWeights ws k q b w = (r : Exp) (i : ℕ) → BeginsAt b r i → IsThetaWeight ws (k - i) r q (w r)
+
+-- no theta whose series begins at degree d has a fault
+abbrev pub BeginWithoutFault : List Wall → ℕ → Point → ℕ → Sum → Type 0
+BeginWithoutFault ws k q d b = (r : Exp) → BeginsAt b r d → IsAskFault ws (k - d) r q None
+
+-- one of them has the fault, and those before it have none
+abbrev pub BeginWithFault : List Wall → ℕ → Point → ℕ → Sum → AskFault → Type 0
+BeginWithFault ws k q d b fault = (r : Exp) × BeginsAt b r d × IsAskFault ws (k - d) r q (Some fault)
+    × ((r' : Exp) → BeginsAt b r' d → IsTrue (exp_before r' r) → IsAskFault ws (k - d) r' q None)
+
+-- with the weights of step d the running weight is too large
+abbrev pub IsTooHeavy : List Wall → ℕ → Point → ℕ → Sum → ℕ → Type 0
+IsTooHeavy ws k q d b n = (w : Exp → ℕ) × AreWeights ws k q b w × (2 ^ 126 < n + weight_of w (of_degree d b))
+
 -- before step d nothing has failed: the family and the running weight
 pub data Runs (ws : List Wall) (k : ℕ) (q : Point) (s : Sum) (first : ℕ) : ℕ → Sum → ℕ → Type 0 where
   begins : Runs ws k q s first 0 [] first
   goes : {d : ℕ} {a : Sum} {n : ℕ} (b : Sum) (w : Exp → ℕ) → Runs ws k q s first d a n → IsNext ws k q s d a b
-      → ((r : Exp) → BeginsAt b r d → IsAskFault ws (k - d) r q None)
-      → ((r : Exp) (i : ℕ) → BeginsAt b r i → IsThetaWeight ws (k - i) r q (w r))
+      → BeginWithoutFault ws k q d b
+      → AreWeights ws k q b w
       → n + weight_of w (of_degree d b) ≤ 2 ^ 126
       → Runs ws k q s first (suc d) b (n + weight_of w (of_degree d b))
 
 -- the fault of step d, after its terms were added
 abbrev pub FailsAt : List Wall → ℕ → Point → Sum → ℕ → ℕ → AskFault → Type 0
 FailsAt ws k q s first d fault = (a b : Sum) × (n : ℕ) × (d ≤ k) × Runs ws k q s first d a n × IsNext ws k q s d a b
-    × (((r : Exp) × BeginsAt b r d × IsAskFault ws (k - d) r q (Some fault)
-    × ((r' : Exp) → BeginsAt b r' d → IsTrue (exp_before r' r) → IsAskFault ws (k - d) r' q None))
-    ⊎ ((fault ≡ WeightTooLarge) × ((r : Exp) → BeginsAt b r d → IsAskFault ws (k - d) r q None)
-    × ((w : Exp → ℕ) × ((r : Exp) (i : ℕ) → BeginsAt b r i → IsThetaWeight ws (k - i) r q (w r)) × (2 ^ 126 < n + weight_of w (of_degree d b)))))
+    × (BeginWithFault ws k q d b fault ⊎ ((fault ≡ WeightTooLarge) × BeginWithoutFault ws k q d b × IsTooHeavy ws k q d b n))
 
 abbrev pub StepsFault : List Wall → ℕ → Point → Sum → ℕ → Option AskFault → Type 0
 StepsFault ws k q s first (Some fault) = (d : ℕ) × FailsAt ws k q s first d fault

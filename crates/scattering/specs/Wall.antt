@@ -1,4 +1,9 @@
 -- Walls: lines, incoming and outgoing rays, each with a wall function.
+--     Wall, IsWall n            a wall; with a point, a direction and a wall function of order n
+--     On w p, is_on w p         p lies on w; the same as a test
+--     starts_at, is_live, are_parallel, crosses_to      tests of walls
+--     Diagram, walls            initial walls and rays; all of them
+-- A wall is live where its function has a term other than 1, which is where the function isn't 1, as it is a series.
 use Rattle.std.specs.Prelude.{ℕ, ◌+◌, nat_le, Bool, true, false, not, ◌&&◌, IsTrue, List, ◌++◌, map, ℤ, pos, int_le, ◌≢◌}
 use Rattle.std.specs.List.{list_any}
 use Rattle.scattering.specs.Series.{Exp, int_eq, det, dot, Sum, cut, rest, degree, IsWallFunction}

@@ -1,4 +1,4 @@
--- a crossing keeps the Poisson bracket
+-- A crossing keeps the Poisson bracket.
 use Rattle.std.specs.Prelude.{◌≡◌, refl, ℕ, List, [], ◌∷◌, ◌++◌, ◌<◌}
 use Rattle.std.proofs.Common.{sym, ◌∙◌, ap, arith}
 use mathlib.Core.Quot.{mk, sound, lift, Quot-set}

@@ -1,4 +1,4 @@
--- the coefficient at a key; equal coefficients up to degree k are equality modulo degree above k
+-- The coefficient at a key; equal coefficients up to degree k are equality modulo degree above k.
 use Rattle.std.specs.Prelude.{◌≡◌, refl, ℕ, List, [], ◌∷◌, ◌++◌, ◌<◌, ◌≤◌, Bool, true, false, cond, length}
 use Rattle.std.proofs.Common.{sym, ◌∙◌, ap, arith, zero, suc}
 use Rattle.std.proofs.Math.Decide.{dec_le}

@@ -1,4 +1,4 @@
--- a crossing: each key x is replaced by x times a power of f, whose exponent is additive in x
+-- A crossing: each key x is replaced by x times a power of f, whose exponent is additive in x.
 use Rattle.std.specs.Prelude.{◌≡◌, refl, ℕ, List, [], ◌∷◌}
 use Rattle.std.proofs.Common.{sym, ◌∙◌, ap, suc}
 use lib.IntN.{ℤ, pos, negsuc, ◌+ℤ◌}

@@ -1,4 +1,4 @@
--- laws of crossings: well defined, inverted by the opposite sign, commuting
+-- Laws of crossings: well defined, inverted by the opposite sign, commuting.
 use Rattle.std.specs.Prelude.{◌≡◌, refl, ℕ, List, [], ◌∷◌, ◌≤◌}
 use Rattle.std.proofs.Common.{sym, ◌∙◌, ap, arith, zero, suc}
 use lib.IntN.{ℤ, pos, negsuc, ◌+ℤ◌, neg_ℤ, +ℤ_invl}

@@ -1,4 +1,4 @@
--- a derivation on the powers of a unit, in a commutative ring with the integers in it
+-- A derivation on the powers of a unit, in a commutative ring with the integers in it.
 use Rattle.std.specs.Prelude.{◌≡◌, refl, [], ◌∷◌}
 use Rattle.std.proofs.Common.{sym, ◌∙◌, ap}
 use lib.IntN.{ℤ, pos, suc_ℤ, pred_ℤ}

@@ -1,9 +1,9 @@
--- the integers as a ring, and trials of `ring`
-use Rattle.std.specs.Prelude.{◌≡◌, refl, ℕ, [], ◌∷◌}
-use Rattle.std.proofs.Common.{sym, ◌∙◌, ap, zero, suc}
-use lib.IntN.{ℤ, pos, one, ◌+ℤ◌, ◌-ℤ◌, ◌*ℤ◌, neg_ℤ, *ℤ_comm, *ℤ-one, +ℤ_assoc, +ℤ_comm, +ℤ_idr, +ℤ_invr}
+-- The integers as a ring, and the variables in which its terms are written.
+use Rattle.std.specs.Prelude.{◌≡◌, refl, [], ◌∷◌}
+use Rattle.std.proofs.Common.{sym, ◌∙◌, ap}
+use lib.IntN.{ℤ, pos, one, ◌+ℤ◌, ◌*ℤ◌, neg_ℤ, *ℤ_comm, *ℤ-one, +ℤ_assoc, +ℤ_comm, +ℤ_idr, +ℤ_invr}
 use Rattle.sum_algebra.proofs.Integers.{*ℤ_assoc, +ℤ-*ℤ}
-use Rattle.sum_algebra.proofs.Ring.{CommRing, Expr, var, plus, times, minus, nought, unit, eval, ring}
+use Rattle.sum_algebra.proofs.Ring.{CommRing, Expr, var, plus, times, minus, unit, ring}
 
 pub *ℤ_one : (m : ℤ) → m *ℤ pos 1 ≡ m
 unfolding one
@@ -38,9 +38,6 @@ abbrev pub ◌:-◌ : Expr → Expr → Expr
 a :- b = plus a (minus b)
 
 infixl 6 ◌:-◌
-four : (a b c d : ℤ) → (a *ℤ b) *ℤ (c *ℤ d) ≡ (a *ℤ c) *ℤ (b *ℤ d)
-four a b c d = ring ints_ring (a ∷ b ∷ c ∷ d ∷ []) (times (times (var 0) (var 1)) (times (var 2) (var 3))) (times (times (var 0) (var 2)) (times (var 1) (var 3))) refl
-
 -- with the two sides as functions of the variables
 abbrev pub X : Expr
 X = var 0
@@ -53,30 +50,6 @@ Z = var 2
 
 abbrev pub W : Expr
 W = var 3
-
-det-add : (a b c d e f : ℤ) → a *ℤ (d +ℤ f) -ℤ b *ℤ (c +ℤ e) ≡ (a *ℤ d -ℤ b *ℤ c) +ℤ (a *ℤ f -ℤ b *ℤ e)
-det-add a b c d e f =
-    ring ints_ring (a ∷ b ∷ c ∷ d ∷ e ∷ f ∷ [])
-    (X :* (W :+ var 5) :- Y :* (Z :+ var 4))
-    ((X :* W :- Y :* Z) :+ (X :* var 5 :- Y :* var 4)) refl
-
-abbrev pow_e : Expr → ℕ → Expr
-pow_e e zero = unit
-pow_e e (suc n) = times e (pow_e e n)
-
-sq : (a b : ℤ) → (a -ℤ b) *ℤ (a +ℤ b) ≡ a *ℤ a -ℤ b *ℤ b
-sq a b = ring ints_ring (a ∷ b ∷ []) ((X :- Y) :* (X :+ Y)) (X :* X :- Y :* Y) refl
-
--- (x + y + z) ^ 4 two ways: 81 terms
-big : (a b c : ℤ) → eval ints_ring (a ∷ b ∷ c ∷ []) (pow_e (X :+ Y :+ Z) 4) ≡ eval ints_ring (a ∷ b ∷ c ∷ []) (pow_e (Z :+ Y :+ X) 4)
-big a b c = ring ints_ring (a ∷ b ∷ c ∷ []) (pow_e (X :+ Y :+ Z) 4) (pow_e (Z :+ Y :+ X) 4) refl
-
--- Jacobi-like: many terms cancel
-jac : (a b c d e f : ℤ) →
-    (a *ℤ d -ℤ b *ℤ c) *ℤ e +ℤ (c *ℤ f -ℤ d *ℤ e) *ℤ a +ℤ (e *ℤ b -ℤ f *ℤ a) *ℤ c ≡ pos 0
-jac a b c d e f =
-    ring ints_ring (a ∷ b ∷ c ∷ d ∷ e ∷ f ∷ [])
-    ((X :* W :- Y :* Z) :* var 4 :+ (Z :* var 5 :- W :* var 4) :* X :+ (var 4 :* Y :- var 5 :* X) :* Z) nought refl
 
 -- in any ring, with a hypothesis
 module _ {R : Type 0} (𝓡 : CommRing R) where

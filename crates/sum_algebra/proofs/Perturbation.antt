@@ -1,4 +1,4 @@
--- a term of degree j more in f changes a crossing modulo degree j + 1 by one term
+-- A term of degree j more in f changes a crossing modulo degree j + 1 by one term.
 use Rattle.std.specs.Prelude.{◌≡◌, refl, ℕ, List, [], ◌∷◌, ◌++◌, ◌<◌, ◌≤◌}
 use Rattle.std.proofs.Common.{sym, ◌∙◌, ap, arith}
 use lib.IntN.{ℤ, pos, suc_ℤ, pred_ℤ, ◌*ℤ◌, neg_ℤ, zero-*ℤ, suc_ℤ-*ℤ, pred_ℤ-*ℤ}

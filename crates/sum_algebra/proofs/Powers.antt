@@ -1,4 +1,4 @@
--- powers, the geometric inverse and powers by any whole number, in any commutative ring
+-- Powers, the geometric inverse and powers by any whole number, in any commutative ring.
 use Rattle.std.specs.Prelude.{◌≡◌, refl, ℕ, [], ◌∷◌}
 use Rattle.std.proofs.Common.{sym, ◌∙◌, ap, zero, suc}
 use lib.IntN.{ℤ, pos, negsuc, suc_ℤ, pred_ℤ, ◌+ℤ◌, +ℤ_idl, suc_ℤ-+ℤ, pred_ℤ-+ℤ}

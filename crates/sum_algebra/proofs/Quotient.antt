@@ -1,4 +1,4 @@
--- formal sums modulo degree above k, as a ring with honest equality: the set quotient by Same
+-- Formal sums modulo degree above k, as a ring with honest equality: the set quotient by Same.
 use Rattle.std.specs.Prelude.{◌≡◌, refl, ℕ, List, [], ◌∷◌, ◌++◌, ◌<◌}
 use Rattle.std.proofs.Common.{◌∙◌, ap}
 use mathlib.Core.HLevel.{Π_prop}

@@ -1,4 +1,4 @@
--- crossings that change little: two commute modulo high degree, and a term more in f adds one term
+-- Crossings that change little: two commute modulo high degree, and a term more in f adds one term.
 use Rattle.std.specs.Prelude.{◌≡◌, refl, ℕ, List, [], ◌∷◌, ◌+◌, ◌-◌, ◌<◌, ◌≤◌}
 use Rattle.std.proofs.Common.{sym, ◌∙◌, ap, arith, zero, suc}
 use lib.IntN.{ℤ, pos, negsuc, suc_ℤ, pred_ℤ, ◌+ℤ◌, ◌-ℤ◌}

@@ -1,4 +1,4 @@
--- formal sums: lists of a key and a whole coefficient, read by what they pair to
+-- Formal sums: lists of a key and a whole coefficient, read by what they pair to.
 use Rattle.std.specs.Prelude.{◌≡◌, refl, ℕ, List, [], ◌∷◌, ◌++◌, ◌+◌, ◌<◌}
 use Rattle.std.proofs.Common.{sym, ◌∙◌, ap, arith}
 use mathlib.Core.Path.{fun_ext}

@@ -1,4 +1,4 @@
--- where the terms of a formal sum may stand, up to what cancels
+-- Where the terms of a formal sum may stand, up to what cancels.
 use Rattle.std.specs.Prelude.{◌≡◌, refl, ℕ, List, [], ◌∷◌, ◌++◌, ◌<◌, ◌≤◌}
 use Rattle.std.proofs.Common.{sym, ◌∙◌, ap, arith, zero, suc}
 use lib.IntN.{ℤ, pos}

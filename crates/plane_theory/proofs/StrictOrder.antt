@@ -1,4 +1,4 @@
--- Lists in a strict order: what stands in them tells them; coefficients of a series and of reduced rays.
+-- Lists in a strict order: what stands in them tells them; and the coefficients of a series.
 use Rattle.std.proofs.Common.{◌≡◌, ◌≢◌, ℕ, refl, subst, sym, ◌∙◌, ap, List, [], ◌∷◌, Bool, true, false, arith, inl, inr, ◌⊎◌}
 use Rattle.std.specs.Prelude.{ℤ, pos, ◌&&◌, ◌||◌, nat_lt, ◌==◌, ◌+ℤ◌, ◌*ℤ◌, IsTrue, int_lt}
 use Rattle.std.proofs.lemmas.Int.{ints}
@@ -11,8 +11,7 @@ use Rattle.scattering.specs.Series as D
 use Rattle.scattering.specs.Plane.{Point, point_eq, point_before}
 use Rattle.scattering.specs.Wall.{Wall}
 use Rattle.scattering.specs.Completion.{ray_before}
-use Rattle.scattering.specs.Correction.{ray_coef}
-use Rattle.scattering.proofs.Lists.{Every-at}
+use Rattle.scattering.proofs.Lists.{Every-at, or-out, Every-implies}
 use Rattle.scattering.proofs.Keys.{key_eq-same, key_eq-refl, exp_eq-same, point_eq-same}
 
 is-true : (b : Bool) → IsTrue b → b ≡ true
@@ -66,11 +65,7 @@ powers_before-asym p q h i =
     let a = step p.t1 q.t1 _ _ h i in let b = step p.t2 q.t2 _ _ a.0 a.1 in let c = step p.t3 q.t3 _ _ b.0 b.1 in let d = step p.t4 q.t4 _ _ c.0 c.1 in
     let e = step p.t5 q.t5 _ _ d.0 d.1 in let f = step p.t6 q.t6 _ _ e.0 e.1 in let g = step p.t7 q.t7 _ _ f.0 f.1 in last p.t8 q.t8 g.0 g.1
 
-or-cases : (a b : Bool) → (a || b) ≡ true → (a ≡ true) ⊎ (b ≡ true)
-or-cases true b e = inl refl
-or-cases false b e = inr e
-
-and-both : (a b : Bool) → (a && b) ≡ true → (a ≡ true) × (b ≡ true)
+pub and-both : (a b : Bool) → (a && b) ≡ true → (a ≡ true) × (b ≡ true)
 and-both true b e = (refl, e)
 and-both false b e = absurd (cc)
 
@@ -78,7 +73,7 @@ and-both false b e = absurd (cc)
 module _ {A B : Type 0} (before : A → A → Bool) (same : A → A → Bool) (after : B → B → Bool)
     (asym : (x y : A) → before x y ≡ true → before y x ≡ true → ⊥) (sure : (x y : A) → same x y ≡ true → x ≡ y) (asym' : (x y : B) → after x y ≡ true → after y x ≡ true → ⊥) where
   pub two-asym : (x y : A) (u v : B) → (before x y || (same x y && after u v)) ≡ true → (before y x || (same y x && after v u)) ≡ true → ⊥
-  two-asym x y u v p q = go (or-cases (before x y) _ p) (or-cases (before y x) _ q)
+  two-asym x y u v p q = go (or-out (before x y) _ p) (or-out (before y x) _ q)
     where
       go : (before x y ≡ true) ⊎ ((same x y && after u v) ≡ true) → (before y x ≡ true) ⊎ ((same y x && after v u) ≡ true) → ⊥
       go (inl a) (inl b) = asym x y a b
@@ -100,7 +95,7 @@ ray_before-asym r s p q = two-asym point_before point_eq exp_before point_before
 abbrev pub KeysRise : Sum → Type 0
 KeysRise f = EveryPair (λ (t u : Term). IsTrue (key_before t.0 u.0)) f
 
-bool_cases : (b : Bool) → (b ≡ true) ⊎ (b ≡ false)
+pub bool_cases : (b : Bool) → (b ≡ true) ⊎ (b ≡ false)
 bool_cases true = inl refl
 bool_cases false = inr refl
 
@@ -115,15 +110,11 @@ different k l h = go (bool_cases (key_eq l k))
     go (inr e) = e
     go (inl e) = let b : key_before k l ≡ true = is-true _ h in let c : key_before k k ≡ true = subst (λ (w : Key). key_before k w ≡ true) (key_eq-same l k e) b in absurd (key_before-asym k k c c)
 
-pub Every-map2 : {A : Type 0} (P Q : A → Type 0) (xs : List A) → ((x : A) → P x → Q x) → Every P xs → Every Q xs
-Every-map2 P Q [] i h = tt
-Every-map2 P Q (x ∷ xs) i h = (i x h.0, Every-map2 P Q xs i h.1)
-
 -- a term of a series has its coefficient
 pub coef-own : (f : Sum) → KeysRise f → (t : Term) → In t f → coef f t.0 ≡ t.1
 coef-own [] r t i = absurd i
 coef-own (u ∷ f) r t (inl e) =
-    rw e (rw (key_eq-refl u.0, coef-none f u.0 (Every-map2 _ (λ (v : Term). key_eq v.0 u.0 ≡ false) f (λ v b. different u.0 v.0 b) r.0)) (ring ints_ring (u.1 ∷ []) (X :+ nought) X refl))
+    rw e (rw (key_eq-refl u.0, coef-none f u.0 (Every-implies _ (λ (v : Term). key_eq v.0 u.0 ≡ false) f (λ v b. different u.0 v.0 b) r.0)) (ring ints_ring (u.1 ∷ []) (X :+ nought) X refl))
 coef-own (u ∷ f) r t (inr i) =
     rw (apart u.0 t.0 (Every-at (λ (v : Term). IsTrue (key_before u.0 v.0)) f t r.0 i), coef-own f r.1 t i) (ring ints_ring (t.1 ∷ []) (nought :+ X) X refl)
   where
@@ -166,65 +157,6 @@ coef-rest (t ∷ f) k no_unit = go (key_eq t.0 D.unit) refl (key_eq t.0 k) refl 
     go true e false q h = rw e (rw q (h ∙ ring ints_ring (coef f k ∷ []) X (nought :+ X) refl))
     go false e true q h = rw e (rw q (ap (λ s. t.1 +ℤ s) h))
     go false e false q h = rw e (rw q (ap (λ s. pos 0 +ℤ s) h))
-
--- ---- rays
-
-abbrev pub RaysRise : List Wall → Type 0
-RaysRise rays = EveryPair (λ (r s : Wall). IsTrue (ray_before r s)) rays
-
-abbrev matches : Wall → Point → Exp → Bool
-matches r p d = point_eq r.at p && exp_eq r.dir d
-
-ray_coef-none : (rays : List Wall) (p : Point) (d : Exp) (k : Key) → Every (λ r. matches r p d ≡ false) rays → ray_coef rays p d k ≡ pos 0
-ray_coef-none [] p d k h = refl
-ray_coef-none (r ∷ rays) p d k h = rw (h.0, ray_coef-none rays p d k h.1) refl
-
-matches-same : (r s : Wall) → matches r s.at s.dir ≡ true → (r.at ≡ s.at) × (r.dir ≡ s.dir)
-matches-same r s e = let b = and-both (point_eq r.at s.at) (exp_eq r.dir s.dir) e in (point_eq-same r.at s.at b.0, exp_eq-same r.dir s.dir b.1)
-
-irreflexive : (r s : Wall) → IsTrue (ray_before r s) → r.at ≡ s.at → r.dir ≡ s.dir → ⊥
-irreflexive r s h e q =
-    let a : ray_before s s ≡ true = subst (λ (p : Point). (point_before p s.at || (point_eq p s.at && exp_before s.dir s.dir)) ≡ true) e (subst (λ (d : Exp). (point_before r.at s.at || (point_eq r.at s.at && exp_before d s.dir)) ≡ true) q h) in
-    ray_before-asym s s a a
-
-later : (r s : Wall) → IsTrue (ray_before r s) → matches s r.at r.dir ≡ false
-later r s h = go (bool_cases (matches s r.at r.dir))
-  where
-    go : (matches s r.at r.dir ≡ true) ⊎ (matches s r.at r.dir ≡ false) → matches s r.at r.dir ≡ false
-    go (inr e) = e
-    go (inl e) = let q = matches-same s r e in absurd (irreflexive r s h (sym q.0) (sym q.1))
-
-earlier : (r s : Wall) → IsTrue (ray_before r s) → matches r s.at s.dir ≡ false
-earlier r s h = go (bool_cases (matches r s.at s.dir))
-  where
-    go : (matches r s.at s.dir ≡ true) ⊎ (matches r s.at s.dir ≡ false) → matches r s.at s.dir ≡ false
-    go (inr e) = e
-    go (inl e) = let q = matches-same r s e in absurd (irreflexive r s h q.0 q.1)
-
-matches-own : (p : Point) (d : Exp) → (point_eq p p && exp_eq d d) ≡ true
-matches-own p d = rw (point-refl p, exp-refl d) refl
-  where
-    point-refl : (p : Point) → point_eq p p ≡ true
-    point-refl p = grind (arith, ints)
-
-    exp-refl : (d : Exp) → exp_eq d d ≡ true
-    exp-refl d = grind (arith, ints)
-
-pub ray_coef-own : (rays : List Wall) → RaysRise rays → (r : Wall) → In r rays → (k : Key) → ray_coef rays r.at r.dir k ≡ coef (rest r.function) k
-ray_coef-own [] h r i k = absurd i
-ray_coef-own (s ∷ rays) h r (inl e) k =
-    subst (λ (w : Wall). ray_coef (s ∷ rays) w.at w.dir k ≡ coef (rest w.function) k) (sym e)
-    (rw (matches-own s.at s.dir, ray_coef-none rays s.at s.dir k (Every-map2 _ (λ w. matches w s.at s.dir ≡ false) rays (λ w b. later s w b) h.0)) (ring ints_ring (coef (rest s.function) k ∷ []) (X :+ nought) X refl))
-ray_coef-own (s ∷ rays) h r (inr i) k =
-    rw (earlier s r (Every-at (λ w. IsTrue (ray_before s w)) rays r h.0 i), ray_coef-own rays h.1 r i k) (ring ints_ring (coef (rest r.function) k ∷ []) (nought :+ X) X refl)
-
-pub ray_coef-find : (rays : List Wall) (p : Point) (d : Exp) (k : Key) → ray_coef rays p d k ≢ pos 0 → (r : Wall) × In r rays × (r.at ≡ p) × (r.dir ≡ d)
-ray_coef-find [] p d k h = absurd (h refl)
-ray_coef-find (r ∷ rays) p d k h = go (matches r p d) refl (ray_coef-find rays p d k)
-  where
-    go : (b : Bool) → matches r p d ≡ b → (ray_coef rays p d k ≢ pos 0 → (s : Wall) × In s rays × (s.at ≡ p) × (s.dir ≡ d)) → (s : Wall) × In s (r ∷ rays) × (s.at ≡ p) × (s.dir ≡ d)
-    go true e f = let b = and-both (point_eq r.at p) (exp_eq r.dir d) e in (r, inl refl, point_eq-same r.at p b.0, exp_eq-same r.dir d b.1)
-    go false e f = let s = f (λ z. h (rw e (rw z refl))) in (s.0, inr s.1, s.2, s.3)
 
 pub dead-coef : (f : Sum) (k : Key) → list_any (λ (t : Term). true) f ≡ false → coef f k ≡ pos 0
 dead-coef [] k e = refl

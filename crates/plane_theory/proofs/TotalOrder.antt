@@ -4,8 +4,8 @@ use Rattle.std.specs.Prelude.{ℤ, ◌&&◌, ◌||◌, nat_lt, ◌==◌, int_lt}
 use Rattle.std.proofs.lemmas.Int.{ints}
 use Rattle.scattering.specs.Series.{Exp, Powers, Key, int_eq, exp_eq, exp_before, powers_before, key_before}
 use Rattle.scattering.specs.Plane.{Point, IsPoint, point_eq, point_before}
-use Rattle.scattering.proofs.Lists.{or-out, and-in, and-left, and-right}
-use Rattle.scattering.proofs.Keys.{int_eq-same, exp_eq-same, exp_eq-refl, point_eq-same, point_eq-refl}
+use Rattle.scattering.proofs.Lists.{or-first, or-second, or-out, and-in, and-left, and-right}
+use Rattle.scattering.proofs.Keys.{exp_eq-same, exp_eq-refl, point_eq-refl, int_eq-same, int_eq-refl, point_eq-same}
 use Rattle.plane_theory.proofs.PointOrder.{before-trans, before-total}
 
 -- one is before the other, or they are equal
@@ -16,14 +16,6 @@ pub compared-as : {l g : Bool} (E F : Type 0) → (E → F) → Compared l g E �
 compared-as E F f (inl a) = inl a
 compared-as E F f (inr (inl b)) = inr (inl b)
 compared-as E F f (inr (inr e)) = inr (inr (f e))
-
-or-first : (a b : Bool) → a ≡ true → (a || b) ≡ true
-or-first true b e = refl
-or-first false b e = absurd (cc)
-
-or-second : (a b : Bool) → b ≡ true → (a || b) ≡ true
-or-second true b e = refl
-or-second false b e = e
 
 -- ---- of two orders one after the other
 
@@ -78,18 +70,15 @@ int-total x y = go (int_lt x y) refl (int_lt y x) refl
 int-trans : (x y z : ℤ) → int_lt x y ≡ true → int_lt y z ≡ true → int_lt x z ≡ true
 int-trans x y z p q = grind (arith, ints)
 
-int-itself : (x : ℤ) → int_eq x x ≡ true
-int-itself x = grind (arith, ints)
-
 -- ---- exponents, powers, keys
 
 pub exp-total : (u v : Exp) → Compared (exp_before u v) (exp_before v u) (u ≡ v)
 exp-total u v =
     compared-as ((u.a ≡ v.a) × (u.b ≡ v.b)) (u ≡ v) (λ e. λ i. record { a = e.0 i; b = e.1 i })
-    (two-total int_lt int_eq int-itself u.a v.a (int_lt u.b v.b) (int_lt v.b u.b) (u.b ≡ v.b) (int-total u.a v.a) (int-total u.b v.b))
+    (two-total int_lt int_eq int_eq-refl u.a v.a (int_lt u.b v.b) (int_lt v.b u.b) (u.b ≡ v.b) (int-total u.a v.a) (int-total u.b v.b))
 
 pub exp-trans : (u v w : Exp) → exp_before u v ≡ true → exp_before v w ≡ true → exp_before u w ≡ true
-exp-trans u v w = two-trans int_lt int_eq int_eq-same int-itself u.a v.a w.a (int_lt u.b v.b) (int_lt v.b w.b) (int_lt u.b w.b) (int-trans u.a v.a w.a) (int-trans u.b v.b w.b)
+exp-trans u v w = two-trans int_lt int_eq int_eq-same int_eq-refl u.a v.a w.a (int_lt u.b v.b) (int_lt v.b w.b) (int_lt u.b w.b) (int-trans u.a v.a w.a) (int-trans u.b v.b w.b)
 
 first-total : (x y : ℕ) (l g : Bool) (E : Type 0) → Compared l g E → Compared (nat_lt x y || ((x == y) && l)) (nat_lt y x || ((y == x) && g)) ((x ≡ y) × E)
 first-total x y l g E c = two-total nat_lt (λ x y. x == y) nat-itself x y l g E (nat-total x y) c
@@ -100,7 +89,14 @@ first-trans x y z l m n h = two-trans nat_lt (λ x y. x == y) nat-same nat-itsel
 pub powers-total : (p q : Powers) → Compared (powers_before p q) (powers_before q p) (p ≡ q)
 powers-total p q =
     compared-as _ (p ≡ q) (λ e. λ i. record {
-      t1 = e.0 i; t2 = e.1.0 i; t3 = e.1.1.0 i; t4 = e.1.1.1.0 i; t5 = e.1.1.1.1.0 i; t6 = e.1.1.1.1.1.0 i; t7 = e.1.1.1.1.1.1.0 i; t8 = e.1.1.1.1.1.1.1 i;
+      t1 = e.0 i;
+      t2 = e.1.0 i;
+      t3 = e.1.1.0 i;
+      t4 = e.1.1.1.0 i;
+      t5 = e.1.1.1.1.0 i;
+      t6 = e.1.1.1.1.1.0 i;
+      t7 = e.1.1.1.1.1.1.0 i;
+      t8 = e.1.1.1.1.1.1.1 i;
     })
     (first-total p.t1 q.t1 _ _ _ (first-total p.t2 q.t2 _ _ _ (first-total p.t3 q.t3 _ _ _ (first-total p.t4 q.t4 _ _ _
     (first-total p.t5 q.t5 _ _ _ (first-total p.t6 q.t6 _ _ _ (first-total p.t7 q.t7 _ _ _ (nat-total p.t8 q.t8))))))))
