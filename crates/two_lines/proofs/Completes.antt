@@ -14,7 +14,7 @@ use Rattle.scattering.specs.ActivePoint.{is_active}
 use Rattle.crossing_theory.proofs.CutFunctions.{proper-cut}
 use Rattle.completion_theory.proofs.CorrectionExists.{correction_exists}
 use Rattle.crossing_theory.proofs.HalfWalls.{proper}
-use Rattle.crossing_theory.proofs.LiveWalls.{direction-not_origin}
+use Rattle.plane_theory.proofs.Directions.{direction-not_origin}
 use Rattle.correction_theory.proofs.ReducedRays.{rest-nonzero}
 use Rattle.completion_theory.proofs.OrderZero.{starts}
 use Rattle.completion_theory.proofs.NextOrder.{step_completes}

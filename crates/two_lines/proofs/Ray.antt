@@ -10,7 +10,7 @@ use Rattle.scattering.specs.Series.{Key, Sum, Exp, Term, degree, rest, coef, ori
 use Rattle.scattering.specs.Plane.{IsDirection}
 use Rattle.scattering.proofs.Keys.{key_eq-same}
 use Rattle.scattering.proofs.Lists.{or-left}
-use Rattle.crossing_theory.proofs.LiveWalls.{scale-not_origin, direction-not_origin}
+use Rattle.plane_theory.proofs.Directions.{scale-not_origin, direction-not_origin}
 use Rattle.plane_theory.proofs.Directions.{Multiple, as_multiple, cancel, positive-not}
 
 -- an exponent with a gcd of at least 1

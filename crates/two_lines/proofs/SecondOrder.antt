@@ -15,7 +15,7 @@ use Rattle.scattering.specs.LocalProduct.{axis_x, axis_y}
 use Rattle.scattering.specs.Correction.{Lie, ratio_at, IsCorrection, IsAdded, ray_coef}
 use Rattle.scattering.proofs.Keys.{key_eq-same, exp_eq-refl}
 use Rattle.crossing_theory.proofs.Keys.{keys}
-use Rattle.crossing_theory.proofs.LiveWalls.{scale-not_origin, direction-not_origin}
+use Rattle.plane_theory.proofs.Directions.{scale-not_origin, direction-not_origin}
 use Rattle.completion_theory.proofs.NextOrder.{ratio-none}
 use Rattle.plane_theory.proofs.Directions.{det-scale, Multiple, as_multiple, same-direction, cancel, positive-not, zero-factor}
 use Rattle.completion_theory.proofs.UniqueCompletion.{by_axes}
