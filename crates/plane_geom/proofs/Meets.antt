@@ -1,10 +1,10 @@
 -- Where two supports meet, by the formula of the common point of their lines.
-use Rattle.std.proofs.Common.{◌≡◌, ◌≢◌, refl, sym, ap, subst, ◌∙◌, arith, ◌⊎◌, inl, inr, Option, Some, None}
-use Rattle.std.specs.Prelude.{ℤ, pos, ◌+ℤ◌, ◌-ℤ◌, ◌*ℤ◌, neg_ℤ, ◌≤ℤ◌, ◌↔◌}
+use Rattle.std.proofs.Common.{◌≡◌, ◌≢◌, sym, subst, arith, ◌⊎◌, inl, inr, Option, Some, None}
+use Rattle.std.specs.Prelude.{ℤ, pos, ◌-ℤ◌, neg_ℤ, ◌≤ℤ◌}
 use Rattle.std.proofs.lemmas.Int.{ints}
 use Rattle.scattering.proofs.Ring.{dif-up, dif-add, dif-neg, dif-mul, dif-same}
 use Rattle.scattering.specs.Series.{Exp, origin, det}
-use Rattle.scattering.specs.Plane.{Point, IsPoint, IsNear, difference, IsDirection}
+use Rattle.scattering.specs.Plane.{Point, IsPoint, IsNear, difference}
 use Rattle.broken_line_theory.proofs.Points.{line-test, from-test}
 use Rattle.broken_line_theory.proofs.Decided.{direction-moves}
 use Rattle.broken_line_theory.proofs.Reduced.{reduce}
@@ -69,7 +69,7 @@ module _ (s t : Support) (n : det (support_dir s) (support_dir t) ≢ pos 0) whe
         let v = meeting-second (support_at s) (support_dir s) (support_at t) (support_dir t) q (weight s) n h in (
           place-on (support_at t) (support_dir t) q (weight t) i.below s n h a,
           place-on (support_at s) (support_dir s) q (weight s) i.below t back (meets (support_at t) (support_dir t) (support_at s) (support_dir s) q v u)
-            (subst (λ (z : ℤ). HoldsAt t (numer (support_at t) (support_at s) (support_dir s)) z) (sym (det-back (support_dir s) (support_dir t))) b),
+              (subst (λ (z : ℤ). HoldsAt t (numer (support_at t) (support_at s) (support_dir s)) z) (sym (det-back (support_dir s) (support_dir t))) b),
         )
 
   pub not-both : (FirstHolds → SecondHolds → ⊥) → (q : Point) → IsPoint q → OnSupport s q → OnSupport t q → ⊥

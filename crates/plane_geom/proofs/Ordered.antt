@@ -1,6 +1,6 @@
 -- The orders of points and of angles.
-use Rattle.std.proofs.Common.{◌≡◌, ◌≢◌, refl, sym, ap, ◌∙◌, Bool, true, false, cond, arith}
-use Rattle.std.specs.Prelude.{ℤ, pos, int_lt, ◌&&◌, ◌||◌, ◌↔◌, IsTrue}
+use Rattle.std.proofs.Common.{◌≡◌, refl, sym, ap, ◌∙◌, Bool, true, false, cond, arith}
+use Rattle.std.specs.Prelude.{ℤ, int_lt, ◌&&◌, ◌||◌}
 use Rattle.std.specs.Ordering.{int_cmp, ordering_reverse}
 use Rattle.std.specs.Cmp.{IsTotalOrder}
 use Rattle.std.specs.declared.cmp.Ordering.{Ordering}
@@ -11,7 +11,6 @@ use Rattle.scattering.specs.Plane.{IsDirection, turns_before}
 use Rattle.broken_line_theory.proofs.Angle.{turns-trans, turns-out, turned-irrefl}
 use Rattle.broken_line_theory.proofs.Ties.{ties-are-multiples, multiples-equal}
 use Rattle.broken_line_theory.proofs.Decided.{direction-moves}
-use Rattle.plane_geom.specs.declared.Direction.{Direction}
 use Rattle.plane_geom.specs.Shown.{exp_of, turn_order, angle_order}
 
 -- ---- two numbers, then two more

@@ -1,10 +1,9 @@
 -- Points as quotients of whole numbers over one denominator.
-use Rattle.std.proofs.Common.{◌≡◌, ◌≢◌, refl, sym, ap, subst, ◌∙◌, ◌≤◌, ◌^◌, arith, Option, Some, None}
-use Rattle.std.specs.Prelude.{ℤ, pos, negsuc, ◌+ℤ◌, ◌-ℤ◌, ◌*ℤ◌, neg_ℤ, ◌≤ℤ◌, nat_abs, IfSome, MatchOption}
-use Rattle.std.proofs.lemmas.Int.{ints}
+use Rattle.std.proofs.Common.{◌≡◌, ◌≢◌, subst, arith, Option, Some, None}
+use Rattle.std.specs.Prelude.{ℤ, pos, ◌+ℤ◌, ◌-ℤ◌, ◌*ℤ◌, neg_ℤ, ◌≤ℤ◌, IfSome, MatchOption}
 use Rattle.scattering.proofs.Ring.{dif-up, dif-pos, dif-add, dif-neg, dif-mul, dif-same}
 use Rattle.scattering.specs.Series.{Exp}
-use Rattle.scattering.specs.Plane.{Point, IsPoint, IsNear}
+use Rattle.scattering.specs.Plane.{Point, IsNear}
 use Rattle.broken_line_theory.proofs.Whole.{follows, positive, zero_of, dif-below}
 use Rattle.plane_geom.specs.declared.Point.{Point as CodePoint}
 use Rattle.plane_geom.specs.Shown.{point_of, IsQuotient, IsCommon}

@@ -11,6 +11,7 @@ use frac_128::gcd;
 use std::cmp::Ordering;
 
 const LARGEST_OF_POINT: u128 = 1099511627776;
+
 const LARGEST_OF_DIRECTION: u32 = 4096;
 
 impl Point {

@@ -56,3 +56,6 @@ pub enum Meeting {
     TooFar,
     At(Point),
 }
+
+#[cfg(test)]
+mod tests;

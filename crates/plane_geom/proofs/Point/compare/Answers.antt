@@ -1,4 +1,4 @@
-use Rattle.std.proofs.Common.{sym, ap, ◌∙◌}
+use Rattle.std.proofs.Common.{sym, ◌∙◌}
 use Rattle.std.specs.Prelude.{◌*ℤ◌}
 use Rattle.std.specs.Ordering.{int_cmp}
 use Rattle.plane_geom.proofs.Casts.{product-seen}

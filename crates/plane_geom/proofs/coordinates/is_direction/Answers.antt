@@ -1,5 +1,5 @@
 use Rattle.std.proofs.Common.{eqb-true, eq-eqb}
-use Rattle.plane_geom.proofs.Made.{direction-found, direction-one, direction-sizes}
+use Rattle.plane_geom.proofs.Made.{direction-found, direction-one}
 use Rattle.plane_geom.proofs.coordinates.is_direction.Goals as goal
 
 pub returns : goal.returns

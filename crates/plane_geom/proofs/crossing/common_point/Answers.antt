@@ -1,4 +1,4 @@
-use Rattle.std.proofs.Common.{◌∙◌, sym, ap, subst, ℤ}
+use Rattle.std.proofs.Common.{◌∙◌, sym}
 use Rattle.plane_geom.specs.Shown.{point_of, exp_of}
 use Rattle.plane_geom.proofs.Casts.{neg-fits, neg-is, back107, larger107, below-zero, grown-seen, shifted-seen}
 use Rattle.plane_geom.proofs.Quotients.{answered, answer-along, answer-turned, common, not-zero}
