@@ -42,6 +42,9 @@ IsQuotient x y w p = IsPoint p × (p.x *ℤ w ≡ x *ℤ p.w) × (p.y *ℤ w ≡
 abbrev pub point_order : Point → Point → Ordering
 point_order p q = cond (point_before p q) Less (cond (point_before q p) Greater Equal)
 
+abbrev pub position_order : CodePoint → CodePoint → Ordering
+position_order p q = point_order (point_of p) (point_of q)
+
 -- x divided by g, rounded toward 0
 abbrev pub over : ℕ → ℤ → ℤ
 over g (pos n) = pos (n / g)

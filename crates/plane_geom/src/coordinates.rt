@@ -1,9 +1,10 @@
 //! Points and directions from their numbers, and the order of points.
 
 ghost use Rattle.std.specs.Prelude.{◌≡◌, ℕ, ◌≤◌, ◌<◌, ◌/◌, ◌^◌, ◌≤ℤ◌, ◌↔◌, pos, nat_abs, IsTrue, IsSome, IfSome, MatchOption};
+ghost use Rattle.std.specs.Cmp.{IsTotalOrder};
 ghost use Rattle.scattering.specs.Plane.{Point as PlanePoint, IsNear, IsDirection};
 ghost use Rattle.plane_geom.specs.Places.{pair, IsSmall};
-ghost use Rattle.plane_geom.specs.Shown.{over, point_of, exp_of, IsQuotient, point_order};
+ghost use Rattle.plane_geom.specs.Shown.{over, point_of, exp_of, IsQuotient, point_order, position_order};
 
 use crate::products::product;
 use crate::{Direction, Point};
@@ -35,9 +36,12 @@ impl Point {
         }
     }
 
-    /// By x, then y, as rational numbers.
+    /// By x, then y, as rational numbers. This is a total order of points, in which only equal
+    /// ones tie.
     pub fn compare(&self, other: &Point) -> Ordering
-        ensures { result ≡ point_order (point_of self.now) (point_of other.now) }
+        ensures value { result ≡ point_order (point_of self.now) (point_of other.now) }
+        ensures equal { (result ≡ Ordering.Equal) ↔ (point_of self.now ≡ point_of other.now) }
+        ensures total { IsTotalOrder position_order }
     {
         match product(self.x, other.w).cmp(&product(other.x, self.w)) {
             Ordering::Equal => product(self.y, other.w).cmp(&product(other.y, self.w)),
