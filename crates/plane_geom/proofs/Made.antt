@@ -7,7 +7,7 @@ use Rattle.std.proofs.lemmas.Nat.Gcd.{same_from_IsGcd}
 use mir.Syntax.{w32}
 use Rattle.scattering.specs.Plane.{Point, IsNear, IsDirection}
 use Rattle.plane_geom.specs.Places.{pair, IsSmall}
-use Rattle.broken_line_theory.proofs.Reduced.{divided, divided-point, divided-x, divided-y, divided-only, size-over}
+use Rattle.broken_line_theory.proofs.Reduced.{divided, divided-point, divided-x, divided-y, divided-only, divisor-positive, size-over}
 use Rattle.plane_geom.specs.Shown.{over, IsQuotient}
 
 -- the numbers as they were passed on
@@ -28,6 +28,9 @@ module _ (x y w : ℤ) (h g : ℕ) (x' y' w' : ℤ) (u v t : ℕ) (p : Passed x 
 
   all : IsGcd h (nat_abs w) g
   all = subst (λ (m : ℕ). IsGcd h m g) (p.t_is ∙ ap nat_abs p.w_is) p.all
+
+  pub divisor : 1 ≤ g
+  divisor = divisor-positive x y w h g p.below both all
 
   far-one : (z z' : ℤ) → z' ≡ z → 2 ^ 40 < nat_abs z' / g → nat_abs (over g z) ≤ 2 ^ 40 → ⊥
   far-one z z' e l m = let a = size-over g z in let b = ap (λ (k : ℤ). nat_abs k / g) e in omega (arith, a, b, l, m)

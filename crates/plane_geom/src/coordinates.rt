@@ -24,16 +24,14 @@ impl Point {
     {
         let both = gcd(x.unsigned_abs(), y.unsigned_abs());
         let g = gcd(both, w.unsigned_abs());
-        match shrunk(x, g) {
-            None => None,
-            Some(a) => match shrunk(y, g) {
-                None => None,
-                Some(b) => match shrunk(w, g) {
-                    None => None,
-                    Some(c) => Some(Point { x: a, y: b, w: c }),
-                },
-            },
-        }
+        let small_x = shrunk(x, g)?;
+        let small_y = shrunk(y, g)?;
+        let small_w = shrunk(w, g)?;
+        Some(Point {
+            x: small_x,
+            y: small_y,
+            w: small_w,
+        })
     }
 
     /// By x, then y, as rational numbers. This is a total order of points, in which only equal
@@ -85,6 +83,6 @@ fn shrunk(x: i128, g: u128) -> Option<i64>
     if size > LARGEST_OF_POINT {
         return None;
     }
-    let small = size as i64;
-    if x < 0 { Some(-small) } else { Some(small) }
+    let size = size as i64;
+    if x < 0 { Some(-size) } else { Some(size) }
 }
