@@ -15,28 +15,28 @@ pub fn meet(s: &Support, t: &Support) -> Meeting
 {
     let (p, d) = whole_line(s);
     let (r, e) = whole_line(t);
-    let turn = cross(&d, &e);
+    let turn = cross(d, e);
     if turn == 0 {
         return Meeting::Parallel;
     }
-    let along = numerator(&p, &r, &e);
-    if !holds(s, along, turn) || !holds(t, numerator(&r, &p, &d), -turn) {
+    let along = numerator(p, r, e);
+    if !holds(s, along, turn) || !holds(t, numerator(r, p, d), -turn) {
         return Meeting::Outside;
     }
-    match common_point(&p, &d, &r, along, turn) {
+    match common_point(p, d, r, along, turn) {
         Some(q) => Meeting::At(q),
         None => Meeting::TooFar,
     }
 }
 
 /// A point and the direction of the support's whole line.
-fn whole_line(s: &Support) -> (Point, Direction)
-    ensures at { point_of result.0 ≡ support_at s.now }
-    ensures dir { exp_of result.1 ≡ support_dir s.now }
+fn whole_line(s: &Support) -> (&Point, &Direction)
+    ensures at { point_of result.0.now ≡ support_at s.now }
+    ensures dir { exp_of result.1.now ≡ support_dir s.now }
 {
     match s {
-        Support::Line { at, dir } => (*at, *dir),
-        Support::Half { start, along } => (*start, *along),
+        Support::Line { at, dir } => (at, dir),
+        Support::Half { start, along } => (start, along),
     }
 }
 
