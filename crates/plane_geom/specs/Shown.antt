@@ -39,6 +39,10 @@ OnSupport (Half p d) q = FromOn (point_of p) (exp_of d) q
 abbrev pub IsQuotient : ℤ → ℤ → ℤ → Point → Type 0
 IsQuotient x y w p = IsPoint p × (p.x *ℤ w ≡ x *ℤ p.w) × (p.y *ℤ w ≡ y *ℤ p.w)
 
+-- (x/w, y/w) is no near point
+abbrev pub IsFar : ℤ → ℤ → ℤ → Type 0
+IsFar x y w = (p : Point) → IsQuotient x y w p → IsNear p → ⊥
+
 abbrev pub point_order : Point → Point → Ordering
 point_order p q = cond (point_before p q) Less (cond (point_before q p) Greater Equal)
 
@@ -80,5 +84,5 @@ HoldsAt (Half p d) n t = pos 0 ≤ℤ (n *ℤ t)
 -- the near point p + n/(p.w·r.w·t)·d, or that this is far
 abbrev pub IsCommon : Point → Exp → Point → ℤ → ℤ → Option CodePoint → Type 0
 IsCommon p d r n t o =
-    MatchOption o ((q : Point) → IsQuotient (p.x *ℤ r.w *ℤ t +ℤ n *ℤ d.a) (p.y *ℤ r.w *ℤ t +ℤ n *ℤ d.b) (p.w *ℤ r.w *ℤ t) q → IsNear q → ⊥)
+    MatchOption o (IsFar (p.x *ℤ r.w *ℤ t +ℤ n *ℤ d.a) (p.y *ℤ r.w *ℤ t +ℤ n *ℤ d.b) (p.w *ℤ r.w *ℤ t))
     (λ q. IsQuotient (p.x *ℤ r.w *ℤ t +ℤ n *ℤ d.a) (p.y *ℤ r.w *ℤ t +ℤ n *ℤ d.b) (p.w *ℤ r.w *ℤ t) (point_of q))

@@ -2,9 +2,9 @@
 
 ghost use Rattle.std.specs.Prelude.{◌≡◌, ℕ, ◌≤◌, ◌<◌, ◌/◌, ◌^◌, ◌≤ℤ◌, ◌↔◌, pos, nat_abs, IsTrue, IsSome, IfSome, MatchOption};
 ghost use Rattle.std.specs.Cmp.{IsTotalOrder};
-ghost use Rattle.scattering.specs.Plane.{Point as PlanePoint, IsNear, IsDirection};
+ghost use Rattle.scattering.specs.Plane.{IsNear, IsDirection};
 ghost use Rattle.plane_geom.specs.Places.{pair, IsSmall};
-ghost use Rattle.plane_geom.specs.Shown.{over, point_of, exp_of, IsQuotient, point_order, position_order};
+ghost use Rattle.plane_geom.specs.Shown.{over, point_of, exp_of, IsQuotient, IsFar, point_order, position_order};
 
 use crate::products::product;
 use crate::{Direction, Point};
@@ -20,7 +20,7 @@ impl Point {
     pub fn new(x: i128, y: i128, w: i128) -> Option<Point>
         requires { pos 1 ≤ℤ w }
         ensures point { IfSome result (λ p. IsQuotient x y w (point_of p)) }
-        ensures far { MatchOption result ((p : PlanePoint) → IsQuotient x y w p → IsNear p → ⊥) (λ p. IsNear (point_of p)) }
+        ensures far { MatchOption result (IsFar x y w) (λ p. IsNear (point_of p)) }
     {
         let both = gcd(x.unsigned_abs(), y.unsigned_abs());
         let g = gcd(both, w.unsigned_abs());
