@@ -1,8 +1,7 @@
 //! Exact fractions whose numerator and denominator are 128-bit whole numbers.
 #![tactic(auto)]
 
-ghost use Rattle.std.specs.Prelude.{◌≡◌, ℕ, ℤ, ◌↔◌, ◌≤ℤ◌, ◌+ℤ◌, ◌*ℤ◌, pos, nat_abs, IsSome, IfSome};
-ghost use Rattle.std.specs.Int.{IsGcd};
+ghost use Rattle.std.specs.Prelude.{◌↔◌, ◌≤ℤ◌, ◌+ℤ◌, ◌*ℤ◌, pos, IsSome, IfSome};
 ghost use Rattle.frac_128.specs.Quotient.{IsLowest, AreEqual, SumFits, LowestFits};
 
 mod divisor;

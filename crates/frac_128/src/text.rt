@@ -1,9 +1,8 @@
 //! The text of a fraction, read and printed.
 
-ghost use Rattle.std.specs.Prelude.{◌≡◌, ◌≢◌, ℤ, pos, ◌≤ℤ◌, IfOk, MatchOption, FitsSigned};
+ghost use Rattle.std.specs.Prelude.{◌≡◌, ◌≢◌, ℤ, IfOk, MatchOption, FitsSigned};
 ghost use Rattle.std.specs.Int.{w128};
 ghost use Rattle.std.specs.Fmt.{signed_decimal};
-ghost use Rattle.frac_128.specs.Quotient.{IsLowest};
 ghost use Rattle.frac_128.specs.Text.{fraction_text, NamesNoFraction, IsPair};
 
 use crate::{Fraction, gcd};

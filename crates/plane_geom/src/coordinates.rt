@@ -1,6 +1,6 @@
 //! Points and directions from their numbers, and the order of points.
 
-ghost use Rattle.std.specs.Prelude.{◌≡◌, ℕ, ◌≤◌, ◌<◌, ◌/◌, ◌^◌, ◌≤ℤ◌, ◌↔◌, pos, nat_abs, IsTrue, IsSome, IfSome, MatchOption};
+ghost use Rattle.std.specs.Prelude.{◌≡◌, ◌≤◌, ◌<◌, ◌/◌, ◌^◌, ◌≤ℤ◌, ◌↔◌, pos, nat_abs, IsTrue, IsSome, IfSome, MatchOption};
 ghost use Rattle.std.specs.Cmp.{IsTotalOrder};
 ghost use Rattle.scattering.specs.Plane.{IsNear, IsDirection};
 ghost use Rattle.plane_geom.specs.Places.{pair, IsSmall};

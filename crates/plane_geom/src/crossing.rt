@@ -1,8 +1,8 @@
 //! Where two supports meet.
 
-ghost use Rattle.std.specs.Prelude.{◌≡◌, ◌≢◌, ◌↔◌, ◌≤◌, ◌^◌, ◌≤ℤ◌, ◌+ℤ◌, ◌*ℤ◌, pos, nat_abs, IsTrue, MatchOption};
+ghost use Rattle.std.specs.Prelude.{◌≡◌, ◌≢◌, ◌↔◌, ◌≤◌, ◌^◌, ◌≤ℤ◌, ◌*ℤ◌, pos, nat_abs, IsTrue};
 ghost use Rattle.scattering.specs.Series.{det};
-ghost use Rattle.scattering.specs.Plane.{Point as PlanePoint, IsNear, difference};
+ghost use Rattle.scattering.specs.Plane.{difference};
 ghost use Rattle.plane_geom.specs.Shown.{exp_of, point_of, support_at, support_dir, HoldsAt, IsCommon, IsMeeting};
 
 use crate::angle::cross;

@@ -4,7 +4,6 @@
 //! places and meetings are exact in 128 bits: each product says its own bound.
 #![tactic(auto)]
 
-ghost use Rattle.std.specs.Prelude.{ℕ, ℤ};
 ghost use Rattle.scattering.specs.Plane.{IsPoint, IsNear, IsDirection};
 ghost use Rattle.plane_geom.specs.Places.{point, pair, IsSmall};
 

@@ -1,6 +1,6 @@
 //! Places of points: on which side of a line, and whether on a line or half-line.
 
-ghost use Rattle.std.specs.Prelude.{◌≡◌, ◌↔◌, ◌≤ℤ◌, ◌+ℤ◌, ◌-ℤ◌, ◌*ℤ◌, pos, IsTrue};
+ghost use Rattle.std.specs.Prelude.{◌≡◌, ◌↔◌, IsTrue};
 ghost use Rattle.scattering.specs.Plane.{difference, FromOn};
 ghost use Rattle.scattering.specs.Series.{det, dot};
 ghost use Rattle.plane_geom.specs.Shown.{point_of, exp_of, OnWhole, OnSupport, signum};
