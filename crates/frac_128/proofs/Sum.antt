@@ -6,7 +6,7 @@ use Rattle.std.proofs.lemmas.Int.{ints}
 use Rattle.std.proofs.lemmas.Nat.Gcd.{same_from_IsGcd}
 use Rattle.sum_algebra.proofs.Ring.{var, ring}
 use Rattle.sum_algebra.proofs.IntegerRing.{ints_ring, ◌:*◌, ◌:+◌}
-use Rattle.frac_128.specs.Quotient.{IsLowest, AreEqual, IsReduced, SumFits}
+use Rattle.frac_128.specs.Quotient.{IsLowest, AreEqual, IsReduced, SumFitsOver}
 use Rattle.frac_128.proofs.Lowest.{nonzero, above, cancel, across, positive-mul}
 use Rattle.frac_128.proofs.Divided.{divided}
 
@@ -44,7 +44,7 @@ module _ (a b c d b' d' : ℤ) (h : IsLowest a b) (k : IsLowest c d) (r : IsRedu
   second : int_div d (pos r.g) ≡ d'
   second = cancel (int_div d (pos r.g)) d' (pos r.g) divisor (sym (divided d r.g r.gcd.1) ∙ r.second)
 
-  pub sum-needs : ((g : ℕ) → IsGcd (nat_abs b) (nat_abs d) g → SumFits a b c d g) → Passes a b c b' d'
+  pub sum-needs : ((g : ℕ) → IsGcd (nat_abs b) (nat_abs d) g → SumFitsOver a b c d g) → Passes a b c b' d'
   sum-needs f =
       let s = f r.g r.gcd in record {
         left = subst (λ (z : ℤ). FitsSigned w128 (a *ℤ z)) second s.left;
@@ -53,8 +53,8 @@ module _ (a b c d b' d' : ℤ) (h : IsLowest a b) (k : IsLowest c d) (r : IsRedu
         denominator = subst (λ (z : ℤ). FitsSigned w128 (b *ℤ z)) second s.denominator;
       }
 
-  pub sum-suffices : Passes a b c b' d' → (g : ℕ) → IsGcd (nat_abs b) (nat_abs d) g → SumFits a b c d g
-  sum-suffices p g i = subst (λ (n : ℕ). SumFits a b c d n) (same_from_IsGcd (nat_abs b) (nat_abs d) r.g g r.gcd i) (record {
+  pub sum-suffices : Passes a b c b' d' → (g : ℕ) → IsGcd (nat_abs b) (nat_abs d) g → SumFitsOver a b c d g
+  sum-suffices p g i = subst (λ (n : ℕ). SumFitsOver a b c d n) (same_from_IsGcd (nat_abs b) (nat_abs d) r.g g r.gcd i) (record {
     left = subst (λ (z : ℤ). FitsSigned w128 (a *ℤ z)) (sym second) p.left;
     right = subst (λ (z : ℤ). FitsSigned w128 (c *ℤ z)) (sym first) p.right;
     numerator = subst (λ (z : ℤ). FitsSigned w128 (a *ℤ int_div d (pos r.g) +ℤ c *ℤ z)) (sym first) (subst (λ (z : ℤ). FitsSigned w128 (a *ℤ z +ℤ c *ℤ b')) (sym second) p.numerator);

@@ -11,12 +11,16 @@ pub record IsLowest (num den : ℤ) : Type 0 where
 abbrev pub AreEqual : ℤ → ℤ → ℤ → ℤ → Type 0
 AreEqual a b c d = a *ℤ d ≡ c *ℤ b
 
--- the numbers of a/b + c/d over the least common denominator of b and d are within 128 bits; g is the greatest common divisor of b and d
-pub record SumFits (a b c d : ℤ) (g : ℕ) : Type 0 where
+-- the numbers of a/b + c/d over the common denominator b·(d/g) are within 128 bits, for a common divisor g of b and d
+pub record SumFitsOver (a b c d : ℤ) (g : ℕ) : Type 0 where
   pub left : FitsSigned w128 (a *ℤ int_div d (pos g))
   pub right : FitsSigned w128 (c *ℤ int_div b (pos g))
   pub numerator : FitsSigned w128 (a *ℤ int_div d (pos g) +ℤ c *ℤ int_div b (pos g))
   pub denominator : FitsSigned w128 (b *ℤ int_div d (pos g))
+
+-- the same over the least common denominator
+abbrev pub SumFits : ℤ → ℤ → ℤ → ℤ → Type 0
+SumFits a b c d = (g : ℕ) → IsGcd (nat_abs b) (nat_abs d) g → SumFitsOver a b c d g
 
 -- both numbers of a/b in lowest terms are within 128 bits
 abbrev pub LowestFits : ℤ → ℤ → Type 0

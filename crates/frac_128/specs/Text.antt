@@ -1,11 +1,16 @@
 -- The text of a fraction: its numerator, and its denominator where that isn't 1.
-use Rattle.std.specs.Prelude.{◌≡◌, ℕ, ℤ, pos, ◌≤ℤ◌, List, ◌++◌, codes, if◌then◌else◌}
+use Rattle.std.specs.Prelude.{◌≡◌, ◌≢◌, FitsSigned, ℕ, ℤ, pos, ◌≤ℤ◌, List, ◌++◌, codes, if◌then◌else◌}
+use Rattle.std.specs.Int.{w128}
 use Rattle.std.specs.Fmt.{signed_decimal}
 use Rattle.std.specs.Ordering.{int_eq}
 use Rattle.frac_128.specs.Quotient.{IsLowest}
 
 abbrev pub fraction_text : ℤ → ℤ → List ℕ
 fraction_text num den = if int_eq den (pos 1) then signed_decimal num else (signed_decimal num ++ codes "/" ++ signed_decimal den)
+
+-- no fraction of 128-bit numbers has this text
+abbrev pub NamesNoFraction : List ℕ → Type 0
+NamesNoFraction text = (num den : ℤ) → IsLowest num den → FitsSigned w128 num → FitsSigned w128 den → text ≢ fraction_text num den
 
 -- the two texts around the `/` of p/q
 pub record IsPair (num den : List ℕ) (p q : ℤ) : Type 0 where

@@ -1,6 +1,6 @@
 //! The greatest common divisor, and division by it.
 
-ghost use Rattle.std.specs.Prelude.{ℤ, pos, ◌≤ℤ◌};
+ghost use Rattle.std.specs.Prelude.{pos, ◌≤ℤ◌};
 ghost use Rattle.std.specs.Int.{IsGcd};
 ghost use Rattle.frac_128.specs.Quotient.{IsReduced};
 

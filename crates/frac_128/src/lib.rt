@@ -1,8 +1,7 @@
 //! Exact fractions whose numerator and denominator are 128-bit whole numbers.
 #![tactic(auto)]
 
-ghost use Rattle.std.specs.Prelude.{◌≡◌, ℕ, ℤ, ◌↔◌, ◌≤ℤ◌, ◌+ℤ◌, ◌*ℤ◌, pos, nat_abs, IsSome, IfSome};
-ghost use Rattle.std.specs.Int.{IsGcd};
+ghost use Rattle.std.specs.Prelude.{◌↔◌, ◌≤ℤ◌, ◌+ℤ◌, ◌*ℤ◌, pos, IsSome, IfSome};
 ghost use Rattle.frac_128.specs.Quotient.{IsLowest, AreEqual, SumFits, LowestFits};
 
 mod divisor;
@@ -34,7 +33,7 @@ impl Fraction {
     /// 128 bits: either numerator brought to that denominator, their sum, or that denominator.
     pub fn checked_add(self, other: Fraction) -> Option<Fraction>
         ensures sum { IfSome result (λ s. AreEqual s.num s.den (self.num *ℤ other.den +ℤ other.num *ℤ self.den) (self.den *ℤ other.den)) }
-        ensures fits { IsSome result ↔ ((g : ℕ) → IsGcd (nat_abs self.den) (nat_abs other.den) g → SumFits self.num self.den other.num other.den g) }
+        ensures fits { IsSome result ↔ SumFits self.num self.den other.num other.den }
     {
         let (own, others) = without_common_divisor(self.den, other.den);
         let left = self.num.checked_mul(others)?;

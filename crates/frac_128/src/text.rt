@@ -1,10 +1,9 @@
 //! The text of a fraction, read and printed.
 
-ghost use Rattle.std.specs.Prelude.{◌≡◌, ◌≢◌, ℤ, pos, ◌≤ℤ◌, IfOk, MatchOption, FitsSigned};
+ghost use Rattle.std.specs.Prelude.{◌≡◌, ◌≢◌, ℤ, IfOk, MatchOption, FitsSigned};
 ghost use Rattle.std.specs.Int.{w128};
 ghost use Rattle.std.specs.Fmt.{signed_decimal};
-ghost use Rattle.frac_128.specs.Quotient.{IsLowest};
-ghost use Rattle.frac_128.specs.Text.{fraction_text, IsPair};
+ghost use Rattle.frac_128.specs.Text.{fraction_text, NamesNoFraction, IsPair};
 
 use crate::{Fraction, gcd};
 use itoa::Buffer;
@@ -14,7 +13,7 @@ use std::str;
 impl Fraction {
     /// The fraction that prints as `text`, or None where no fraction does.
     pub fn read(text: &[u8]) -> Option<Fraction>
-        ensures { MatchOption result ((num den : ℤ) → IsLowest num den → FitsSigned w128 num → FitsSigned w128 den → text.now ≢ fraction_text num den) (λ f. text.now ≡ fraction_text f.num f.den) }
+        ensures { MatchOption result (NamesNoFraction text.now) (λ f. text.now ≡ fraction_text f.num f.den) }
     {
         let text = str::from_utf8(text).ok()?;
         match text.split_once('/') {

@@ -1,0 +1,5 @@
+pub mod Casts
+pub mod Made
+pub mod Ordered
+pub mod Quotients
+pub mod Meets
