@@ -85,7 +85,7 @@ rises-cut n (t ∷ f) h = go (nat_le (degree t.0) n) (rises-cut n f h.1)
     go true i = (Every-cut (λ u. IsTrue (key_before t.0 u.0)) n f h.0, i)
     go false i = i
 
-low-cut : (n : ℕ) (f : Sum) → Every (λ t. degree t.0 ≤ n) (cut n f)
+pub low-cut : (n : ℕ) (f : Sum) → Every (λ t. degree t.0 ≤ n) (cut n f)
 low-cut n [] = tt
 low-cut n (t ∷ f) = go (nat_le (degree t.0) n) refl (low-cut n f)
   where

@@ -8,3 +8,4 @@ pub mod Exact
 pub mod Bisection
 pub mod Mass
 pub mod Rows
+pub mod Factors

@@ -6,6 +6,7 @@
 mod arithmetic;
 mod key;
 mod merge;
+mod product;
 mod series;
 
 pub use key::{Exp, Key};
