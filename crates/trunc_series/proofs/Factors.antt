@@ -37,6 +37,7 @@ pair-filter {A} R p (x ∷ xs) h = go (p x) (pair-filter R p xs h.1)
         one : (b : Bool) → Every (R x) (filter p ys) → Every (R x) (cond b (y ∷ filter p ys) (filter p ys))
         one true i = (e.0, i)
         one false i = i
+
     go : (b : Bool) → EveryPair R (filter p xs) → EveryPair R (cond b (x ∷ filter p xs) (filter p xs))
     go true i = (every xs h.0, i)
     go false i = i
@@ -62,8 +63,10 @@ module _ (rule : Arithmetic) where
     where
       rest : Sum
       rest = row_of rule t (sum_of (drop (i + 1) b))
+
       ap2 : add_term rule (key_mul t.0 (key_of (at b i).0), kept rule (t.1 *ℤ (at b i).1)) (row_of rule t (sum_of (drop (i + 1) b))) ≡ cond (int_eq c (pos 0)) (row_of rule t (sum_of (drop (i + 1) b))) ((key_of z, c) ∷ row_of rule t (sum_of (drop (i + 1) b)))
       ap2 = rw (f, e) refl
+
       go : (d : Bool) → int_eq c (pos 0) ≡ d → cond d (row_of rule t (sum_of (drop (i + 1) b))) ((key_of z, c) ∷ row_of rule t (sum_of (drop (i + 1) b))) ≡ (key_of z, c) ∷ row_of rule t (sum_of (drop (i + 1) b))
       go true q = absurd (n (grind (arith, ints)))
       go false q = refl

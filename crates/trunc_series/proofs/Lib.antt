@@ -9,3 +9,4 @@ pub mod Bisection
 pub mod Mass
 pub mod Rows
 pub mod Factors
+pub mod Products

@@ -1,3 +1,4 @@
 pub mod Shown
 pub mod Arithmetic
 pub mod Reduced
+pub mod Capped

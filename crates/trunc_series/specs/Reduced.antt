@@ -1,10 +1,11 @@
 -- A sorted list of terms that stands for a sum, as the crate's own functions hand it on.
-use Rattle.std.specs.Prelude.{◌≡◌, ℕ, ◌+◌, ◌<◌, ◌≤◌, ◌^◌, cond, nat_abs, IsTrue, map, flat_map}
+use Rattle.std.specs.Prelude.{◌≡◌, ℕ, ◌+◌, ◌<◌, ◌≤◌, ◌^◌, cond, pos, nat_abs, IsTrue, map, flat_map}
 use Rattle.std.specs.declared.cmp.Ordering.{Ordering}
 use Rattle.std.specs.declared.cmp.Ordering.TheVariants.{Less, Equal, Greater}
 use Rattle.scattering.specs.Collections.{Every, EveryPair}
 use Rattle.scattering.specs.Series.{Key, Sum, IsSeries, key_before, coef, degree, term_mul}
 use Rattle.trunc_series.specs.declared.arithmetic.Arithmetic.{Arithmetic}
+use Rattle.trunc_series.specs.declared.arithmetic.Arithmetic.TheVariants.{Saturating}
 use Rattle.trunc_series.specs.Arithmetic.{kept, IsKeepable}
 
 -- how two keys stand
@@ -35,3 +36,7 @@ PairsFit n f g = Every (λ t. Every (λ u. degree t.0 + degree u.0 ≤ n) g) f
 -- all pairs of terms
 abbrev pub pairs : Sum → Sum → Sum
 pairs f g = flat_map (λ t. map (term_mul t) g) f
+
+-- the absolute values of the coefficients, as they are kept
+abbrev pub absolute_sum : Sum → Sum
+absolute_sum f = map (λ t. (t.0, kept Saturating (pos (nat_abs t.1)))) f

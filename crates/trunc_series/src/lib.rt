@@ -5,11 +5,13 @@
 
 mod arithmetic;
 mod key;
+mod majorant;
 mod merge;
 mod product;
 mod series;
 
 pub use key::{Exp, Key};
+pub use majorant::Majorant;
 pub use series::Series;
 
 #[cfg(test)]

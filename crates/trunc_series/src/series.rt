@@ -2,12 +2,13 @@
 
 ghost use Rattle.std.specs.Prelude.{◌≡◌, ◌≢◌, ◌≤◌, ◌<◌, ◌+◌, ◌^◌, [], ◌∷◌, ◌++◌, pos, nat_abs, IfOk};
 ghost use Rattle.scattering.specs.Collections.{Every, EveryPair};
-ghost use Rattle.scattering.specs.Series.{IsSeries, one, coef, cut, mass_to};
-ghost use Rattle.trunc_series.specs.Shown.{key_of, sum_of, IsTerm, IsSeriesOf, IsValid};
+ghost use Rattle.scattering.specs.Series.{IsSeries, one, coef, cut, mul, absolute, mass_to};
+ghost use Rattle.trunc_series.specs.Shown.{key_of, sum_of, IsTerm, IsSeriesOf, IsValid, IsNear};
 
 use crate::arithmetic::Arithmetic;
 use crate::key::{Key, compare};
 use crate::merge::{collected, low_terms, merged, rises};
+use crate::product::multiplied;
 use std::alloc::{AllocError, Global};
 use std::cmp::Ordering;
 use std::marker::Model;
@@ -143,6 +144,24 @@ impl Series {
         })
     }
 
+    /// The product without terms of degree above the order.
+    pub fn mul(&self, other: &Series) -> Result<Series, AllocError>
+        requires order { other.now.order ≡ self.now.order }
+        requires near { IsNear self.now.terms }
+        requires near_too { IsNear other.now.terms }
+        requires mass { mass_to self.now.order (mul self.now.order (absolute self.now.terms) (absolute other.now.terms)) ≤ 2 ^ 126 }
+        ensures { IfOk result (λ s. IsSeriesOf s self.now.order (mul self.now.order self.now.terms other.now.terms)) }
+    {
+        let left = self.terms.as_slice();
+        let right = other.terms.as_slice();
+        let terms = multiplied(self.alloc, Arithmetic::Wrapping, self.order, left, right)?;
+        Ok(Series {
+            alloc: self.alloc,
+            order: self.order,
+            terms,
+        })
+    }
+
     /// The terms of degree at most `order`.
     pub fn truncate(&self, order: u32) -> Result<Series, AllocError>
         requires { order ≤ self.now.order }
@@ -154,6 +173,10 @@ impl Series {
             order,
             terms,
         })
+    }
+
+    pub(crate) fn allocator(&self) -> Global {
+        self.alloc
     }
 
     pub fn copy(&self) -> Result<Series, AllocError>

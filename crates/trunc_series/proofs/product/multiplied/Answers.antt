@@ -37,7 +37,7 @@ loop-d-preserved c =
     let a : Sum = sum_of c.args.a.now in
     let b : Sum = sum_of c.args.b.now in
     let some = c.in_ok-some.ensures c.args.order
-        (rw (c.as_slice.ensures.value, c.in_ok-part.ensures, sum_of-where (λ t. degree t.0 == c.loop-d.d) c.args.a.now, c.as_slice-in-loop-d.ensures.value, c.in_ok-low.ensures, sum_of-where (λ t. nat_le (degree t.0) (c.args.order - c.loop-d.d)) c.args.b.now) (pairs-fit c.args.order c.args.order c.loop-d.d (sum_of c.args.a.now) (sum_of c.args.b.now) (omega arith) (omega arith))) in
+    (rw (c.as_slice.ensures.value, c.in_ok-part.ensures, sum_of-where (λ t. degree t.0 == c.loop-d.d) c.args.a.now, c.as_slice-in-loop-d.ensures.value, c.in_ok-low.ensures, sum_of-where (λ t. nat_le (degree t.0) (c.args.order - c.loop-d.d)) c.args.b.now) (pairs-fit c.args.order c.args.order c.loop-d.d (sum_of c.args.a.now) (sum_of c.args.b.now) (omega arith) (omega arith))) in
     level-reduced c.args.rule c.args.order c.loop-d.d (sum_of c.in_ok-out.out.items) a b (omega arith) c.requires.left.keepable c.requires.right.keepable
     (c.in_ok-out.ensures c.args.order (mul c.args.order (below c.loop-d.d a) b) (pairs (level c.loop-d.d a) (cut (c.args.order - c.loop-d.d) b))
     (rw c.as_slice-in-loop-d-2.ensures.value c.loop-d.invariant)
