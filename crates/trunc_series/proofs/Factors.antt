@@ -1,20 +1,20 @@
 -- Parts of factors are factors, and the steps of the program's products.
-use Rattle.std.proofs.Common.{◌≡◌, ◌≢◌, ℕ, zero, suc, ◌+◌, ◌-◌, ◌<◌, ◌≤◌, refl, sym, subst, ap, ◌∙◌, Bool, true, false, cond, List, [], ◌∷◌, ◌++◌, length, get_or, take, drop, append_assoc, arith}
-use Rattle.std.specs.Prelude.{ℤ, pos, ◌*ℤ◌, IsTrue, filter, ◌==◌}
+use Rattle.std.proofs.Common.{◌≡◌, ◌≢◌, ℕ, ◌+◌, ◌-◌, ◌<◌, ◌≤◌, refl, sym, ap, ◌∙◌, Bool, true, false, cond, List, [], ◌∷◌, ◌++◌, length, drop, arith}
+use Rattle.std.specs.Prelude.{ℤ, pos, ◌*ℤ◌, filter}
 use Rattle.std.proofs.lemmas.List.{drop_all, append-nil}
 use Rattle.std.proofs.lemmas.Int.{ints}
 use Rattle.scattering.specs.Collections.{Every, EveryPair}
-use Rattle.scattering.specs.Series.{Key, Term, Sum, IsSeries, degree, int_eq, key_before, key_mul, coef, cut, mul}
+use Rattle.scattering.specs.Series.{Term, Sum, degree, int_eq, key_mul, cut}
 use Rattle.trunc_series.specs.declared.key.Key.{Key as CodeKey}
 use Rattle.trunc_series.specs.declared.arithmetic.Arithmetic.{Arithmetic}
 use Rattle.trunc_series.specs.Shown.{key_of, term_of, sum_of}
-use Rattle.trunc_series.specs.Arithmetic.{kept, IsKeepable}
-use Rattle.trunc_series.specs.Reduced.{IsReduced, IsFactor, IsNearKey, PairsFit, pairs}
+use Rattle.trunc_series.specs.Arithmetic.{kept}
+use Rattle.trunc_series.specs.Reduced.{IsReduced, IsFactor, PairsFit, pairs}
 use Rattle.trunc_series.proofs.Coefficients.{Every-weaker, Every-left, Every-right}
-use Rattle.trunc_series.proofs.Terms.{at, sum_of-append, sum_of-drop, sum_of-push, sum_of-halves}
-use Rattle.trunc_series.proofs.Merging.{add_term, whole}
+use Rattle.trunc_series.proofs.Terms.{at, sum_of-drop, sum_of-push}
+use Rattle.trunc_series.proofs.Merging.{add_term}
 use Rattle.trunc_series.proofs.Exact.{low-cut}
-use Rattle.trunc_series.proofs.Rows.{row_of, row_sum, row-reduced, pairs-append, level, level-degree, Every-filter, below, below-none}
+use Rattle.trunc_series.proofs.Rows.{row_of, row_sum, level, level-degree, Every-filter}
 
 -- ---- parts
 

@@ -1,7 +1,7 @@
 -- Numbers as they are kept: to keep them on the way changes nothing.
-use Rattle.std.proofs.Common.{◌≡◌, ℕ, refl, sym, ap, ◌∙◌, arith, FitsSigned}
-use Rattle.std.specs.Prelude.{ℤ, pos, negsuc, ◌+ℤ◌, ◌*ℤ◌, ◌≤ℤ◌, int_lt, Bool, true, false, cond, ◌^◌}
-use Rattle.std.specs.Int.{int_wrap, int_min}
+use Rattle.std.proofs.Common.{◌≡◌, refl, sym, ap, ◌∙◌, arith}
+use Rattle.std.specs.Prelude.{ℤ, pos, negsuc, ◌+ℤ◌, ◌*ℤ◌}
+use Rattle.std.specs.Int.{int_wrap}
 use Rattle.std.proofs.lemmas.Int.{ints, clamps, int_wrap-add_left, int_wrap-add_right, int_wrap_fits, SFits-int_wrap, fits_signed_from_abs}
 use mir.Syntax.{w128}
 use Rattle.trunc_series.specs.declared.arithmetic.Arithmetic.{Arithmetic}

@@ -10,3 +10,4 @@ pub mod Mass
 pub mod Rows
 pub mod Factors
 pub mod Products
+pub mod Majorants

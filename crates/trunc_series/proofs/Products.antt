@@ -1,10 +1,9 @@
 -- Bounds of a product's coefficients by masses.
-use Rattle.std.proofs.Common.{◌≡◌, ◌≢◌, ℕ, ◌+◌, ◌*◌, ◌<◌, ◌≤◌, ◌^◌, refl, sym, subst, ap, ◌∙◌, Bool, true, false, cond, List, [], ◌∷◌, ◌++◌, arith}
-use Rattle.std.specs.Prelude.{ℤ, pos, ◌*ℤ◌, nat_abs, nat_le, IsTrue}
-use Rattle.std.proofs.lemmas.Int.{ints, unsigned_abs-mul}
-use Rattle.scattering.specs.Collections.{Every, EveryPair}
-use Rattle.scattering.specs.Series.{Key, Term, Sum, IsSeries, Same, degree, key_mul, term_mul, coef, cut, mul, mass_to, absolute}
-use Rattle.trunc_series.specs.declared.arithmetic.Arithmetic.{Arithmetic}
+use Rattle.std.proofs.Common.{◌≡◌, ℕ, ◌+◌, ◌*◌, ◌<◌, ◌≤◌, ◌^◌, refl, sym, ◌∙◌, Bool, true, false, cond, [], ◌∷◌, ◌++◌, arith}
+use Rattle.std.specs.Prelude.{pos, ◌*ℤ◌, nat_abs, nat_le}
+use Rattle.std.proofs.lemmas.Int.{unsigned_abs-mul}
+use Rattle.scattering.specs.Collections.{Every}
+use Rattle.scattering.specs.Series.{Term, Sum, degree, key_mul, term_mul, cut, mul, mass_to, absolute}
 use Rattle.trunc_series.specs.declared.arithmetic.Arithmetic.TheVariants.{Wrapping}
 use Rattle.trunc_series.specs.Shown.{IsValid, IsNear}
 use Rattle.trunc_series.specs.Arithmetic.{IsKeepable}

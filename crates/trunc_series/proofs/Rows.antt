@@ -1,15 +1,15 @@
 -- Products of lists of terms, row by row.
-use Rattle.std.proofs.Common.{◌≡◌, ◌≢◌, ℕ, zero, suc, ◌+◌, ◌-◌, ◌<◌, ◌≤◌, refl, sym, subst, ap, ◌∙◌, Bool, true, false, cond, List, [], ◌∷◌, ◌++◌, append_assoc, arith}
-use Rattle.std.specs.Prelude.{ℤ, pos, ◌+ℤ◌, ◌*ℤ◌, IsTrue, nat_le, nat_lt, ◌==◌, map, filter, flat_map}
+use Rattle.std.proofs.Common.{◌≡◌, ◌≢◌, ℕ, ◌+◌, ◌-◌, ◌≤◌, refl, sym, subst, ap, ◌∙◌, Bool, true, false, cond, [], ◌∷◌, ◌++◌, append_assoc, arith}
+use Rattle.std.specs.Prelude.{ℤ, pos, ◌+ℤ◌, ◌*ℤ◌, IsTrue, nat_le, nat_lt, ◌==◌, map, filter}
 use Rattle.std.proofs.lemmas.Int.{ints}
 use Rattle.scattering.specs.Collections.{Every, EveryPair}
-use Rattle.scattering.specs.Series.{Key, Term, Sum, IsSeries, Same, degree, int_eq, key_eq, key_before, key_mul, term_mul, coef, coef_at, cut, mul}
+use Rattle.scattering.specs.Series.{Key, Term, Sum, Same, degree, int_eq, key_eq, key_before, key_mul, term_mul, coef, coef_at, cut, mul}
 use Rattle.trunc_series.specs.declared.arithmetic.Arithmetic.{Arithmetic}
 use Rattle.trunc_series.specs.Arithmetic.{kept, IsKeepable}
 use Rattle.trunc_series.specs.Reduced.{IsReduced, pairs}
 use Rattle.trunc_series.proofs.Order.{key_before-mul}
-use Rattle.trunc_series.proofs.Kept.{keepable-zero, keepable-add, keepable-mul, keepable-kept, kept-zero, kept-kept, kept-add_left, kept-same_right, kept-same_left}
-use Rattle.trunc_series.proofs.Coefficients.{Every-weaker, Every-append, skip-zero, add-zero, coef-append, keepable-at, keepable-coef}
+use Rattle.trunc_series.proofs.Kept.{keepable-mul, keepable-kept, kept-kept, kept-same_right, kept-same_left}
+use Rattle.trunc_series.proofs.Coefficients.{Every-weaker, Every-append, coef-append, keepable-at, keepable-coef}
 use Rattle.trunc_series.proofs.Merging.{add_term, add_term-coef, Keepable}
 
 -- a term times a list

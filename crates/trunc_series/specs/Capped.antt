@@ -1,7 +1,7 @@
 -- Series with coefficients of at least 0, each kept as the lesser of its value and 2^126 + 1.
 --     IsMajorant n f           what each value keeps
 --     IsMajorantOf m n f       m is the series of order n with the coefficients of f as they are kept
-use Rattle.std.specs.Prelude.{◌≡◌, ℕ, ◌≤◌, ℤ, pos, ◌≤ℤ◌}
+use Rattle.std.specs.Prelude.{◌≡◌, ℕ, ◌≤◌, pos, ◌≤ℤ◌}
 use Rattle.std.specs.Int.{int_min}
 use Rattle.scattering.specs.Collections.{Every}
 use Rattle.scattering.specs.Series.{Key, Sum, IsSeries, coef}

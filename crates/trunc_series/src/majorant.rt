@@ -1,7 +1,7 @@
 // Series with coefficients of at least 0, each kept as the lesser of its value and 2^126 + 1. They test
 // the conditions on masses that exact series have.
 
-ghost use Rattle.std.specs.Prelude.{◌≡◌, ◌≤◌, ◌++◌, IfOk, min};
+ghost use Rattle.std.specs.Prelude.{◌≡◌, ◌≤◌, ◌+◌, ◌^◌, ◌++◌, IfOk, min};
 ghost use Rattle.scattering.specs.Series.{mul, absolute, mass_to};
 ghost use Rattle.trunc_series.specs.Shown.{sum_of, IsNear};
 ghost use Rattle.trunc_series.specs.Capped.{IsMajorant, IsMajorantOf};
@@ -95,7 +95,7 @@ impl Majorant {
 
     /// The sum of the coefficients, or 2^126 + 1 where it is above that.
     pub fn mass(&self) -> u128
-        ensures { result ≡ min (mass_to self.now.order self.now.terms) 85070591730234615865843651857942052865 }
+        ensures { result ≡ min (mass_to self.now.order self.now.terms) (2 ^ 126 + 1) }
     {
         let mut mass = 0;
         for t in self.terms.as_slice() {

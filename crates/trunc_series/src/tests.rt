@@ -37,3 +37,19 @@ fn series_are_made_and_cut(rt: HostRuntime) -> Result<(), Fail> {
     assert_eq!(rt; [series.coefficient(&X), series.coefficient(&XX)], [-1, 1]);
     Ok(())
 }
+
+#[test]
+fn majorants_saturate(rt: HostRuntime) -> Result<(), Fail> {
+    let alloc = rt.alloc();
+    let series = Series::from_terms(alloc, 2, &[(ONE, 1), (X, -1)])?;
+    let one = Majorant::of(&series)?;
+    shared(&one);
+    assert_eq!(rt; one.terms(), [(ONE, 1), (X, 1)].as_slice());
+    let two = one.add(&one.copy()?)?;
+    assert_eq!(rt; two.terms(), [(ONE, 2), (X, 2)].as_slice());
+    assert_eq!(rt; (two.order(), two.mass()), (2, 4));
+    let high = Majorant::of(&Series::from_terms(alloc, 2, &[(X, i128::MAX)])?)?;
+    assert_eq!(rt; high.terms(), [(X, (1 << 126) + 1)].as_slice());
+    assert_eq!(rt; high.add(&high)?.mass(), (1 << 126) + 1);
+    Ok(())
+}

@@ -1,9 +1,8 @@
-use Rattle.std.proofs.Common.{arith, ◌∙◌, sym, length, take, drop, ◌/◌, ◌++◌, List, ◌<◌, ◌≤◌, ◌+◌, ℕ}
+use Rattle.std.proofs.Common.{arith, length, take, drop, ◌/◌, ℕ}
 use Rattle.std.proofs.lemmas.Result.{IfOk-weaker}
-use Rattle.scattering.specs.Series.{Sum, degree}
-use Rattle.scattering.specs.Collections.{Every}
+use Rattle.scattering.specs.Series.{Sum}
 use Rattle.trunc_series.specs.Shown.{term_of, sum_of}
-use Rattle.trunc_series.specs.Reduced.{IsReduced, PairsFit, pairs}
+use Rattle.trunc_series.specs.Reduced.{pairs}
 use Rattle.trunc_series.proofs.Coefficients.{Every-left, Every-right}
 use Rattle.trunc_series.proofs.Merging.{whole}
 use Rattle.trunc_series.proofs.Terms.{at, sum_of-halves}

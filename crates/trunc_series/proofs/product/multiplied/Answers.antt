@@ -1,8 +1,8 @@
-use Rattle.std.proofs.Common.{arith, ◌∙◌, sym, ◌≡◌, ◌≤◌, ◌+◌, ◌-◌, ◌++◌}
+use Rattle.std.proofs.Common.{arith, ◌≡◌, ◌+◌, ◌-◌}
 use Rattle.std.specs.Prelude.{nat_le, ◌==◌}
 use Rattle.scattering.specs.Series.{Sum, degree, mul, cut}
 use Rattle.trunc_series.specs.Shown.{sum_of}
-use Rattle.trunc_series.specs.Reduced.{IsReduced, pairs}
+use Rattle.trunc_series.specs.Reduced.{pairs}
 use Rattle.trunc_series.proofs.Merging.{whole}
 use Rattle.trunc_series.proofs.Rows.{level, below, below-all, below-none, level-reduced}
 use Rattle.trunc_series.proofs.Factors.{factor-filter, reduced-nil, sum_of-where, pairs-fit}

@@ -1,4 +1,3 @@
-use Rattle.std.proofs.Common.{◌≤◌}
 use Rattle.scattering.specs.Series.{mul}
 use Rattle.trunc_series.specs.Shown.{sum_of}
 use Rattle.trunc_series.specs.Reduced.{IsReduced}

@@ -1,6 +1,6 @@
-use Rattle.std.proofs.Common.{refl, sym, subst, ◌≡◌, ℕ}
+use Rattle.std.proofs.Common.{refl}
 use Rattle.scattering.specs.Series.{mul}
-use Rattle.trunc_series.specs.Shown.{sum_of, IsValid}
+use Rattle.trunc_series.specs.Shown.{sum_of}
 use Rattle.trunc_series.proofs.Exact.{Made}
 use Rattle.trunc_series.proofs.Products.{made-product, valid-factor}
 use Rattle.trunc_series.proofs.series.Series.mul.Goals as goal
