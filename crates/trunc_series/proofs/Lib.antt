@@ -11,3 +11,4 @@ pub mod Rows
 pub mod Factors
 pub mod Products
 pub mod Majorants
+pub mod Congruence
