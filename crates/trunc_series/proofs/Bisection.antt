@@ -16,7 +16,7 @@ abbrev pub Rises : Sum → Type 0
 Rises f = EveryPair (λ t u. IsTrue (key_before t.0 u.0)) f
 
 -- the other way round
-apart-back : (k l : Key) → key_before k l ≡ true → key_eq k l ≡ false
+pub apart-back : (k l : Key) → key_before k l ≡ true → key_eq k l ≡ false
 apart-back k l h = go (key_eq k l) refl
   where
     go : (b : Bool) → key_eq k l ≡ b → b ≡ false

@@ -19,7 +19,7 @@ use Rattle.trunc_series.proofs.Rows.{row_sum, Every-filter, sum-keepable, mul-ke
 
 -- ---- a product's coefficient is read of its first factor, term by term
 
-abbrev weight : ℕ → Sum → Key → Key → ℤ
+abbrev pub weight : ℕ → Sum → Key → Key → ℤ
 weight n g k x = coef (cut n (row_sum (x, pos 1) g)) k
 
 row-weight : (n : ℕ) (t : Term) (g : Sum) (k : Key) → coef (cut n (row_sum t g)) k ≡ t.1 *ℤ weight n g k t.0
@@ -35,7 +35,7 @@ row-weight n t (u ∷ g) k = go (nat_le (degree (key_mul t.0 u.0)) n) (key_eq (k
         one true = ring ints_ring (t.1 ∷ u.1 ∷ weight n g k t.0 ∷ []) (X :* Y :+ X :* Z) (X :* (one_of :* Y :+ Z)) refl
         one false = ring ints_ring (t.1 ∷ weight n g k t.0 ∷ []) (nought :+ X :* Y) (X :* (nought :+ Y)) refl
 
-mul-weight : (n : ℕ) (f g : Sum) (k : Key) → coef (mul n f g) k ≡ pairing (weight n g k) f
+pub mul-weight : (n : ℕ) (f g : Sum) (k : Key) → coef (mul n f g) k ≡ pairing (weight n g k) f
 mul-weight n [] g k = refl
 mul-weight n (t ∷ f) g k = coef-append (cut n (row_sum t g)) (mul n f g) k ∙ rw (row-weight n t g k, mul-weight n f g k) refl
 

@@ -29,6 +29,10 @@ pub kept-zero : (rule : Arithmetic) → kept rule (pos 0) ≡ pos 0
 kept-zero Wrapping = int_wrap_fits w128 (pos 0) (fits_signed_from_abs w128 (pos 0) (omega arith))
 kept-zero Saturating = refl
 
+pub kept-one : (rule : Arithmetic) → kept rule (pos 1) ≡ pos 1
+kept-one Wrapping = int_wrap_fits w128 (pos 1) (fits_signed_from_abs w128 (pos 1) (omega arith))
+kept-one Saturating = refl
+
 pub kept-kept : (rule : Arithmetic) (x : ℤ) → kept rule (kept rule x) ≡ kept rule x
 kept-kept Wrapping x = int_wrap_fits w128 (int_wrap w128 x) (SFits-int_wrap w128 x)
 kept-kept Saturating x = omega (arith, ints, clamps)

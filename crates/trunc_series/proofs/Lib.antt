@@ -12,3 +12,5 @@ pub mod Factors
 pub mod Products
 pub mod Majorants
 pub mod Congruence
+pub mod Associate
+pub mod PowerLaws

@@ -1,5 +1,5 @@
 -- A sorted list of terms that stands for a sum, as the crate's own functions hand it on.
-use Rattle.std.specs.Prelude.{◌≡◌, ℕ, ◌+◌, ◌<◌, ◌≤◌, ◌^◌, cond, pos, nat_abs, IsTrue, map, flat_map}
+use Rattle.std.specs.Prelude.{◌≡◌, ℕ, ◌+◌, ◌*◌, ◌<◌, ◌≤◌, ◌^◌, cond, pos, nat_abs, IsTrue, map, flat_map}
 use Rattle.std.specs.declared.cmp.Ordering.{Ordering}
 use Rattle.std.specs.declared.cmp.Ordering.TheVariants.{Less, Equal, Greater}
 use Rattle.scattering.specs.Collections.{Every, EveryPair}
@@ -40,3 +40,7 @@ pairs f g = flat_map (λ t. map (term_mul t) g) f
 -- the absolute values of the coefficients, as they are kept
 abbrev pub absolute_sum : Sum → Sum
 absolute_sum f = map (λ t. (t.0, kept Saturating (pos (nat_abs t.1)))) f
+
+-- no exponent grows faster than the degree
+abbrev pub IsTame : Key → Type 0
+IsTame k = (nat_abs k.exp.a ≤ degree k * 2 ^ 16) × (nat_abs k.exp.b ≤ degree k * 2 ^ 16)

@@ -7,6 +7,7 @@ mod arithmetic;
 mod key;
 mod majorant;
 mod merge;
+mod power;
 mod product;
 mod series;
 
