@@ -129,7 +129,7 @@ module _ (rule : Arithmetic) (n : ℕ) where
   keepable-weight : (g : Sum) (k x : Key) → Keepable rule g → IsKeepable rule (weight n g k x)
   keepable-weight g k x h = keepable-coef rule (cut n (row_sum (x, pos 1) g)) k (Every-filter (λ u. IsKeepable rule u.1) (λ u. nat_le (degree u.0) n) (row_sum (x, pos 1) g) (sum-keepable rule (x, pos 1) g (keepable-one rule) h))
 
-  left-kept : (r f g : Sum) (k : Key) → Keepable rule r → Keepable rule f → Keepable rule g → ((l : Key) → kept rule (coef r l) ≡ kept rule (coef f l)) → kept rule (coef (mul n r g) k) ≡ kept rule (coef (mul n f g) k)
+  pub left-kept : (r f g : Sum) (k : Key) → Keepable rule r → Keepable rule f → Keepable rule g → ((l : Key) → kept rule (coef r l) ≡ kept rule (coef f l)) → kept rule (coef (mul n r g) k) ≡ kept rule (coef (mul n f g) k)
   left-kept r f g k hr hf hg s =
       ap (kept rule) (mul-weight n r g k)
       ∙ pairing-kept rule (weight n g k) (λ x. keepable-weight g k x hg) (length r + length f) r f (omega arith) hr hf s

@@ -26,7 +26,7 @@ pair-right : {A : Type 0} (R : A → A → Type 0) (xs ys : List A) → EveryPai
 pair-right R [] ys h = h
 pair-right R (x ∷ xs) ys h = pair-right R xs ys h.1
 
-pair-filter : {A : Type 0} (R : A → A → Type 0) (p : A → Bool) (xs : List A) → EveryPair R xs → EveryPair R (filter p xs)
+pub pair-filter : {A : Type 0} (R : A → A → Type 0) (p : A → Bool) (xs : List A) → EveryPair R xs → EveryPair R (filter p xs)
 pair-filter R p [] h = tt
 pair-filter {A} R p (x ∷ xs) h = go (p x) (pair-filter R p xs h.1)
   where

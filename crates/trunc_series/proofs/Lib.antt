@@ -14,3 +14,4 @@ pub mod Majorants
 pub mod Congruence
 pub mod Associate
 pub mod PowerLaws
+pub mod Inverses

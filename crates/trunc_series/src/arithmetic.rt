@@ -1,7 +1,7 @@
 // How coefficients are added and multiplied: modulo 2^128, where a bound on the masses makes the result
 // exact, or saturating at 2^126 + 1, where none is below 0.
 
-ghost use Rattle.std.specs.Prelude.{◌≡◌, ◌+ℤ◌, ◌*ℤ◌, ◌≤ℤ◌, ◌+◌, ◌^◌, pos, min, nat_abs, ℤ};
+ghost use Rattle.std.specs.Prelude.{◌≡◌, ◌+ℤ◌, ◌*ℤ◌, ◌≤ℤ◌, neg_ℤ, ◌<◌, ◌+◌, ◌^◌, pos, min, nat_abs, ℤ};
 ghost use Rattle.trunc_series.specs.Arithmetic.{kept, IsKeepable};
 
 #[derive(Clone, Copy)]
@@ -48,4 +48,11 @@ pub fn total(mass: u128, x: &i128) -> u128
     ensures { result ≡ min (mass + nat_abs x.now) (2 ^ 126 + 1) }
 {
     mass.saturating_add(*x as u128).min(LIMIT as u128)
+}
+
+pub fn opposite(x: &i128) -> i128
+    requires { nat_abs x.now < 2 ^ 127 }
+    ensures { result ≡ neg_ℤ x.now }
+{
+    -*x
 }

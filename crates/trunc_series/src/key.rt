@@ -1,7 +1,7 @@
 // Keys: the powers of t1 to t8 and an exponent.
 
 ghost use Rattle.std.specs.Prelude.{◌≡◌, ◌≤◌, ◌<◌, ◌+◌};
-ghost use Rattle.scattering.specs.Series.{degree, key_mul};
+ghost use Rattle.scattering.specs.Series.{degree, key_eq, key_mul, unit};
 ghost use Rattle.trunc_series.specs.Shown.{key_of};
 ghost use Rattle.trunc_series.specs.Reduced.{key_order, IsNearKey};
 
@@ -44,6 +44,13 @@ pub fn compare(k: &Key, l: &Key) -> Ordering
     ensures { result ≡ key_order (key_of k.now) (key_of l.now) }
 {
     k.cmp(l)
+}
+
+/// Whether it is the constant key.
+pub fn is_constant(k: &Key) -> bool
+    ensures { result ≡ key_eq (key_of k.now) unit }
+{
+    k.exp.a == 0 && k.exp.b == 0 && k.degree() == 0
 }
 
 /// The product of two monomials.

@@ -1,14 +1,16 @@
 // Series with coefficients of at least 0, each kept as the lesser of its value and 2^126 + 1. They test
 // the conditions on masses that exact series have.
 
-ghost use Rattle.std.specs.Prelude.{◌≡◌, ◌≤◌, ◌+◌, ◌^◌, ◌++◌, IfOk, min};
-ghost use Rattle.scattering.specs.Series.{mul, absolute, mass_to};
+ghost use Rattle.std.specs.Prelude.{◌≡◌, ◌≤◌, ◌+◌, ◌^◌, ◌++◌, IfOk, min, pos};
+ghost use Rattle.scattering.specs.Series.{degree, coef, unit, rest, mul, pow, absolute, geometric, mass_to};
+ghost use Rattle.scattering.specs.Collections.{Every};
 ghost use Rattle.trunc_series.specs.Shown.{sum_of, IsNear};
 ghost use Rattle.trunc_series.specs.Capped.{IsMajorant, IsMajorantOf};
 
 use crate::arithmetic::{Arithmetic, LIMIT, total};
 use crate::key::Key;
 use crate::merge::{absolutes, merged};
+use crate::power::{powered, powers_summed, without_constant};
 use crate::product::multiplied;
 use crate::series::Series;
 use std::alloc::{AllocError, Global};
@@ -86,6 +88,48 @@ impl Majorant {
         let left = self.terms.as_slice();
         let right = other.terms.as_slice();
         let terms = multiplied(self.alloc, Arithmetic::Saturating, self.order, left, right)?;
+        Ok(Majorant {
+            alloc: self.alloc,
+            order: self.order,
+            terms,
+        })
+    }
+
+    /// 1/(2 - f), the sum of all powers of f - 1.
+    pub fn geometric(&self) -> Result<Majorant, AllocError>
+        requires constant { coef self.now.terms unit ≡ pos 1 }
+        requires others { Every (λ t. 1 ≤ degree t.0) (rest self.now.terms) }
+        requires near { IsNear self.now.terms }
+        ensures { IfOk result (λ m. IsMajorantOf m self.now.order (geometric self.now.order self.now.terms)) }
+    {
+        let others = without_constant(self.alloc, self.terms.as_slice())?;
+        let terms = powers_summed(
+            self.alloc,
+            Arithmetic::Saturating,
+            self.order,
+            others.as_slice(),
+        )?;
+        Ok(Majorant {
+            alloc: self.alloc,
+            order: self.order,
+            terms,
+        })
+    }
+
+    /// The power without terms of degree above the order, of a majorant whose terms other than that of the
+    /// constant key have degree at least 1.
+    pub fn power(&self, n: u32) -> Result<Majorant, AllocError>
+        requires others { Every (λ t. 1 ≤ degree t.0) (rest self.now.terms) }
+        requires near { IsNear self.now.terms }
+        ensures { IfOk result (λ m. IsMajorantOf m self.now.order (pow self.now.order self.now.terms n)) }
+    {
+        let terms = powered(
+            self.alloc,
+            Arithmetic::Saturating,
+            self.order,
+            self.terms.as_slice(),
+            n,
+        )?;
         Ok(Majorant {
             alloc: self.alloc,
             order: self.order,

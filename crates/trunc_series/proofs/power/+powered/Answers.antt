@@ -30,16 +30,16 @@ pub multiplied-requires-2-clause-right : goal.multiplied-requires-2-clause-right
 multiplied-requires-2-clause-right t c =
     let m : ℕ = c.args.n / 2 in
     let square : IsReduced c.args.rule c.args.order (sum_of c.in_ok-square.square.items) (pow c.args.order (sum_of c.args.f.now) (c.args.n / 2 + c.args.n / 2)) =
-        pow-square c.args.rule c.args.order (sum_of c.args.f.now) c.requires.reduced.keepable (c.args.n / 2) (sum_of c.in_ok-half.half.items) (sum_of c.in_ok-square.square.items) c.in_ok-half.ensures
-        (rw (c.as_slice.ensures.value, c.as_slice-2.ensures.value) at c.in_ok-square.ensures) in
+    pow-square c.args.rule c.args.order (sum_of c.args.f.now) c.requires.reduced.keepable (c.args.n / 2) (sum_of c.in_ok-half.half.items) (sum_of c.in_ok-square.square.items) c.in_ok-half.ensures
+    (rw (c.as_slice.ensures.value, c.as_slice-2.ensures.value) at c.in_ok-square.ensures) in
     rw c.as_slice-3.ensures.value
     (reduced-factor c.args.rule c.args.order (sum_of c.in_ok-square.square.items) (pow c.args.order (sum_of c.args.f.now) (c.args.n / 2 + c.args.n / 2)) c.requires.order square (pow-tame c.args.order (sum_of c.args.f.now) (c.args.n / 2 + c.args.n / 2) c.requires.tame))
 
 pub returns : goal.returns
 returns t c =
     let square : IsReduced c.args.rule c.args.order (sum_of c.in_ok-square.square.items) (pow c.args.order (sum_of c.args.f.now) (c.args.n / 2 + c.args.n / 2)) =
-        pow-square c.args.rule c.args.order (sum_of c.args.f.now) c.requires.reduced.keepable (c.args.n / 2) (sum_of c.in_ok-half.half.items) (sum_of c.in_ok-square.square.items) c.in_ok-half.ensures
-        (rw (c.as_slice.ensures.value, c.as_slice-2.ensures.value) at c.in_ok-square.ensures) in
+    pow-square c.args.rule c.args.order (sum_of c.args.f.now) c.requires.reduced.keepable (c.args.n / 2) (sum_of c.in_ok-half.half.items) (sum_of c.in_ok-square.square.items) c.in_ok-half.ensures
+    (rw (c.as_slice.ensures.value, c.as_slice-2.ensures.value) at c.in_ok-square.ensures) in
     let e : c.args.n / 2 + c.args.n / 2 + 1 ≡ c.args.n = omega arith in
     IfOk-weaker c.multiplied-2.result _ _ (λ r h. subst (λ (i : ℕ). IsReduced c.args.rule c.args.order (sum_of r.items) (pow c.args.order (sum_of c.args.f.now) i)) e
     (pow-more c.args.rule c.args.order (sum_of c.args.f.now) c.requires.reduced.keepable (c.args.n / 2 + c.args.n / 2) (sum_of c.args.f.now) (sum_of c.in_ok-square.square.items) (sum_of r.items) c.requires.reduced square (rw c.as_slice-3.ensures.value at h))) c.multiplied-2.ensures

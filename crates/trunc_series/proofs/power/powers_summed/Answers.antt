@@ -20,8 +20,8 @@ merged-requires-clause-right c = rw c.as_slice-in-loop-i-2.ensures.value (whole 
 pub loop-i-preserved : goal.loop-i-preserved
 loop-i-preserved c =
     let power : IsReduced c.args.rule c.args.order (sum_of c.in_ok-power-2.power.items) (pow c.args.order (sum_of c.args.g.now) (c.loop-i.i + 1)) =
-        pow-more c.args.rule c.args.order (sum_of c.args.g.now) c.requires.reduced.keepable c.loop-i.i (sum_of c.args.g.now) (sum_of c.loop-i.power.items) (sum_of c.in_ok-power-2.power.items) c.requires.reduced c.loop-i.invariant.power
-        (rw c.as_slice.ensures.value at c.in_ok-power-2.ensures) in
+    pow-more c.args.rule c.args.order (sum_of c.args.g.now) c.requires.reduced.keepable c.loop-i.i (sum_of c.args.g.now) (sum_of c.loop-i.power.items) (sum_of c.in_ok-power-2.power.items) c.requires.reduced c.loop-i.invariant.power
+    (rw c.as_slice.ensures.value at c.in_ok-power-2.ensures) in
     record {
       power = power;
       total =
