@@ -1,19 +1,13 @@
 -- Products without terms of high degree are associative, and powers add up.
-use Rattle.std.proofs.Common.{◌≡◌, ◌≢◌, ℕ, zero, suc, ◌+◌, ◌*◌, ◌<◌, ◌≤◌, refl, sym, subst, ap, ◌∙◌, Bool, true, false, cond, not, List, [], ◌∷◌, ◌++◌, length, arith, add_assoc}
+use Rattle.std.proofs.Common.{◌≡◌, ℕ, ◌+◌, ◌<◌, refl, sym, ap, ◌∙◌, Bool, true, false, cond, [], ◌∷◌, arith, add_assoc}
 use Rattle.std.specs.Prelude.{ℤ, pos, ◌+ℤ◌, ◌*ℤ◌, nat_le}
-use Rattle.std.proofs.lemmas.Int.{ints}
 use mathlib.Core.Path.{fun_ext}
-use lib.IntN.{+ℤ_assoc, *ℤ_comm}
-use Rattle.sum_algebra.specs.Ring.{ring, nought, unit as one_of, var}
+use lib.IntN.{+ℤ_assoc}
+use Rattle.sum_algebra.specs.Ring.{ring, nought, unit as one_of}
 use Rattle.sum_algebra.specs.RingUse.{ints_ring, ◌:+◌, ◌:*◌, X, Y, Z, W}
-use Rattle.scattering.specs.Collections.{Every}
-use Rattle.scattering.specs.Series.{Key, Powers, Term, Sum, Same, degree, key_eq, key_mul, term_mul, coef, coef_at, cut, mul, pow, one, unit}
-use Rattle.scattering.proofs.Pairing.{pairing, pairing-append, pairing-same}
-use Rattle.trunc_series.proofs.Coefficients.{coef-append, skip-zero, add-zero}
+use Rattle.scattering.specs.Series.{Key, Term, Sum, Same, degree, key_eq, key_mul, term_mul, coef, cut, mul}
+use Rattle.scattering.proofs.Pairing.{pairing, pairing-append}
 use Rattle.trunc_series.proofs.Rows.{row_sum}
-use Rattle.trunc_series.proofs.Exact.{low-cut}
-use Rattle.trunc_series.proofs.Products.{low-mul}
-use Rattle.trunc_series.proofs.Congruence.{mul-comm}
 
 -- a reading without keys of degree above n
 abbrev capped : ℕ → (Key → ℤ) → Key → ℤ

@@ -1,12 +1,11 @@
 -- What is kept of a product's coefficients depends on what is kept of its factors' alone.
-use Rattle.std.proofs.Common.{◌≡◌, ◌≢◌, ℕ, zero, suc, ◌+◌, ◌<◌, ◌≤◌, refl, sym, subst, ap, ◌∙◌, Bool, true, false, cond, not, List, [], ◌∷◌, ◌++◌, length, arith, add_comm}
+use Rattle.std.proofs.Common.{◌≡◌, ℕ, zero, suc, ◌+◌, ◌≤◌, refl, sym, ap, ◌∙◌, Bool, true, false, cond, not, [], ◌∷◌, length, arith, add_comm}
 use Rattle.std.specs.Prelude.{ℤ, pos, ◌+ℤ◌, ◌*ℤ◌, nat_le}
 use Rattle.std.proofs.lemmas.Int.{ints}
 use lib.IntN.{*ℤ_comm, +ℤ_comm}
-use Rattle.sum_algebra.specs.Ring.{ring, nought, unit as one_of, var}
-use Rattle.sum_algebra.specs.RingUse.{ints_ring, ◌:+◌, ◌:*◌, X, Y, Z, W}
-use Rattle.scattering.specs.Collections.{Every}
-use Rattle.scattering.specs.Series.{Key, Powers, Term, Sum, degree, key_eq, key_mul, term_mul, coef, coef_at, cut, mul}
+use Rattle.sum_algebra.specs.Ring.{ring, nought, unit as one_of}
+use Rattle.sum_algebra.specs.RingUse.{ints_ring, ◌:+◌, ◌:*◌, X, Y, Z}
+use Rattle.scattering.specs.Series.{Key, Term, Sum, degree, key_eq, key_mul, term_mul, coef, coef_at, cut, mul}
 use Rattle.scattering.proofs.Keys.{key_eq-refl}
 use Rattle.scattering.proofs.Pairing.{pairing, pairing-split, without, coef-without, length-without}
 use Rattle.trunc_series.specs.declared.arithmetic.Arithmetic.{Arithmetic}

@@ -1,13 +1,13 @@
 -- Sums and powers of what is left of a list without its constant term.
-use Rattle.std.proofs.Common.{◌≡◌, ◌≢◌, ℕ, zero, suc, ◌+◌, ◌*◌, ◌<◌, ◌≤◌, ◌^◌, refl, sym, subst, ap, ◌∙◌, Bool, true, false, cond, not, List, [], ◌∷◌, ◌++◌, arith}
+use Rattle.std.proofs.Common.{◌≡◌, ◌≢◌, ℕ, zero, suc, ◌<◌, ◌≤◌, ◌^◌, refl, sym, ap, ◌∙◌, Bool, true, false, cond, not, [], ◌∷◌, ◌++◌, arith}
 use Rattle.std.specs.Prelude.{ℤ, pos, negsuc, ◌<ℤ◌, neg_ℤ, ◌*ℤ◌, ◌≤ℤ◌, nat_le, nat_abs, filter, IsTrue}
 use Rattle.std.proofs.lemmas.Int.{ints, unsigned_abs-mul}
 use Rattle.scattering.specs.Collections.{Every, EveryPair}
-use Rattle.scattering.specs.Series.{Key, Term, Sum, IsSeries, Same, degree, key_eq, key_mul, key_before, term_mul, coef, cut, mul, pow, power, powers_to, one, unit, rest, absolute, minus, inverse, geometric, mass_to}
+use Rattle.scattering.specs.Series.{Key, Term, Sum, IsSeries, degree, key_eq, key_mul, key_before, term_mul, coef, cut, mul, pow, power, powers_to, unit, rest, absolute, minus, inverse, geometric, mass_to}
 use Rattle.trunc_series.specs.declared.arithmetic.Arithmetic.{Arithmetic}
-use Rattle.trunc_series.specs.declared.arithmetic.Arithmetic.TheVariants.{Saturating, Wrapping}
-use Rattle.trunc_series.specs.Arithmetic.{kept, IsKeepable, limit}
-use Rattle.trunc_series.specs.Shown.{IsNear, IsValid, majorant_power}
+use Rattle.trunc_series.specs.declared.arithmetic.Arithmetic.TheVariants.{Wrapping}
+use Rattle.trunc_series.specs.Arithmetic.{kept, limit}
+use Rattle.trunc_series.specs.Shown.{IsValid, majorant_power}
 use Rattle.trunc_series.specs.Capped.{IsMajorant}
 use Rattle.trunc_series.specs.Reduced.{IsReduced, IsTame}
 use Rattle.trunc_series.proofs.Rows.{row_sum, Every-filter}

@@ -15,3 +15,4 @@ pub mod Congruence
 pub mod Associate
 pub mod PowerLaws
 pub mod Inverses
+pub mod Unique

@@ -18,7 +18,7 @@ use Rattle.trunc_series.proofs.Terms.{at, Every-at, sum_of-drop, sum_of-push}
 use Rattle.trunc_series.proofs.Merging.{Keepable}
 use Rattle.trunc_series.proofs.Products.{near-keys}
 
-min-fixed : (c : ℤ) → c ≤ℤ limit → int_min c limit ≡ c
+pub min-fixed : (c : ℤ) → c ≤ℤ limit → int_min c limit ≡ c
 min-fixed c h = omega (arith, ints, clamps)
 
 min-below : (c : ℤ) → int_min c limit ≡ c → c ≤ℤ limit

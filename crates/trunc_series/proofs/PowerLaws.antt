@@ -1,20 +1,20 @@
 -- Powers add up; their keys, and those of reduced lists.
-use Rattle.std.proofs.Common.{◌≡◌, ◌≢◌, ℕ, zero, suc, ◌+◌, ◌*◌, ◌<◌, ◌≤◌, ◌^◌, refl, sym, subst, ap, ◌∙◌, Bool, true, false, cond, not, List, [], ◌∷◌, ◌++◌, length, arith, zero-add, add-one}
+use Rattle.std.proofs.Common.{◌≡◌, ◌≢◌, ℕ, zero, suc, ◌+◌, ◌<◌, ◌≤◌, refl, sym, subst, ap, ◌∙◌, Bool, true, false, cond, not, [], ◌∷◌, ◌++◌, arith, zero-add, add-one}
 use Rattle.std.specs.Prelude.{ℤ, pos, ◌+ℤ◌, ◌*ℤ◌, nat_le, nat_abs, IsTrue}
 use Rattle.std.proofs.lemmas.Int.{ints}
 use Rattle.std.proofs.lemmas.List.{append-nil}
 use Rattle.std.proofs.lemmas.Bool.{le-leb}
 use lib.IntN.{+ℤ_idl}
 use Rattle.scattering.specs.Collections.{Every, EveryPair}
-use Rattle.scattering.specs.Series.{Key, Powers, Term, Sum, IsSeries, Same, degree, key_eq, key_mul, key_before, term_mul, coef, coef_at, cut, mul, pow, powers_to, one, unit, rest}
+use Rattle.scattering.specs.Series.{Key, Term, Sum, Same, degree, key_eq, key_mul, key_before, coef, cut, mul, pow, powers_to, one, unit, rest}
 use Rattle.scattering.proofs.Keys.{key_eq-same, key_eq-refl}
-use Rattle.scattering.proofs.Pairing.{pairing, pairing-same}
+use Rattle.scattering.proofs.Pairing.{pairing-same}
 use Rattle.trunc_series.specs.declared.arithmetic.Arithmetic.{Arithmetic}
 use Rattle.trunc_series.specs.Arithmetic.{kept, IsKeepable}
 use Rattle.trunc_series.specs.Shown.{IsNear}
 use Rattle.trunc_series.specs.Reduced.{IsReduced, IsFactor, IsNearKey, IsTame}
 use Rattle.trunc_series.proofs.Kept.{kept-zero, kept-one, keepable-one}
-use Rattle.trunc_series.proofs.Coefficients.{Every-weaker, Every-append, coef-append, skip-zero, add-zero, coef-none, apart}
+use Rattle.trunc_series.proofs.Coefficients.{Every-weaker, Every-append, skip-zero, add-zero, coef-none, apart}
 use Rattle.trunc_series.proofs.Bisection.{apart-back}
 use Rattle.trunc_series.proofs.Merging.{whole}
 use Rattle.trunc_series.proofs.Rows.{row_sum, Every-filter, reduced-same, mul-keepable}

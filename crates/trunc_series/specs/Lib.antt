@@ -2,3 +2,4 @@ pub mod Shown
 pub mod Arithmetic
 pub mod Reduced
 pub mod Capped
+pub mod Worked

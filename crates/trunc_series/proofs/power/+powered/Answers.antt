@@ -1,8 +1,8 @@
-use Rattle.std.proofs.Common.{arith, ◌≡◌, ◌∙◌, sym, subst, ◌/◌, ◌+◌, ℕ}
+use Rattle.std.proofs.Common.{arith, ◌≡◌, subst, ◌/◌, ◌+◌, ℕ}
 use Rattle.std.proofs.lemmas.Result.{IfOk-weaker}
-use Rattle.scattering.specs.Series.{Sum, pow, mul}
+use Rattle.scattering.specs.Series.{pow}
 use Rattle.trunc_series.specs.Shown.{sum_of}
-use Rattle.trunc_series.specs.Reduced.{IsReduced, IsFactor}
+use Rattle.trunc_series.specs.Reduced.{IsReduced}
 use Rattle.trunc_series.proofs.PowerLaws.{pow-tame, reduced-factor, pow-square, pow-more}
 use Rattle.trunc_series.proofs.power.+powered.Goals as goal
 

@@ -1,10 +1,10 @@
-use Rattle.std.proofs.Common.{◌≡◌, refl, ap, ◌∙◌, sym, subst}
+use Rattle.std.proofs.Common.{◌≡◌, refl}
 use Rattle.std.specs.Prelude.{not}
 use Rattle.std.proofs.lemmas.Result.{IfOk-weaker}
-use Rattle.scattering.specs.Series.{Sum, key_eq, unit, rest, minus, inverse, powers_to, pow}
+use Rattle.scattering.specs.Series.{key_eq, unit, rest, minus, inverse}
 use Rattle.trunc_series.specs.declared.arithmetic.Arithmetic.TheVariants.{Wrapping}
 use Rattle.trunc_series.specs.Shown.{sum_of}
-use Rattle.trunc_series.specs.Reduced.{IsReduced, IsTame}
+use Rattle.trunc_series.specs.Reduced.{IsTame}
 use Rattle.trunc_series.proofs.Factors.{sum_of-where}
 use Rattle.trunc_series.proofs.PowerLaws.{rest-tame, powers-tame, reduced-keys}
 use Rattle.trunc_series.proofs.Inverses.{rest-small, minus-own, minus-tame, own-reduced, pow-reduced}

@@ -1,7 +1,7 @@
-use Rattle.std.proofs.Common.{arith, ◌≡◌, ◌∙◌, sym, subst, ◌+◌, ◌++◌, ℕ}
-use Rattle.scattering.specs.Series.{Sum, pow, powers_to, mul}
+use Rattle.std.proofs.Common.{◌+◌}
+use Rattle.scattering.specs.Series.{pow}
 use Rattle.trunc_series.specs.Shown.{sum_of}
-use Rattle.trunc_series.specs.Reduced.{IsReduced, IsFactor}
+use Rattle.trunc_series.specs.Reduced.{IsReduced}
 use Rattle.trunc_series.proofs.Merging.{whole}
 use Rattle.trunc_series.proofs.PowerLaws.{pow-tame, reduced-factor, pow-more, sum-more}
 use Rattle.trunc_series.proofs.power.powers_summed.Goals as goal

@@ -1,6 +1,6 @@
-use Rattle.std.proofs.Common.{◌≡◌, refl, ap, ◌∙◌, sym, subst}
+use Rattle.std.proofs.Common.{refl}
 use Rattle.std.specs.Prelude.{not}
-use Rattle.scattering.specs.Series.{Sum, key_eq, unit, rest, geometric, powers_to}
+use Rattle.scattering.specs.Series.{key_eq, unit, rest, geometric}
 use Rattle.trunc_series.specs.Shown.{sum_of}
 use Rattle.trunc_series.proofs.Majorants.{MadeMajorant, own-majorant, made-majorant}
 use Rattle.trunc_series.proofs.Factors.{sum_of-where}

@@ -1,11 +1,9 @@
-use Rattle.std.proofs.Common.{◌≡◌, ◌≤◌, ◌^◌, ℕ, refl, ap, ◌∙◌, sym, subst, arith}
+use Rattle.std.proofs.Common.{◌≡◌, ◌≤◌, ◌^◌, ℕ, refl, ap, ◌∙◌, arith}
 use Rattle.std.specs.Prelude.{pos, nat_abs, ◌<ℤ◌, ◌≤ℤ◌}
 use Rattle.std.specs.Int.{w32}
 use Rattle.std.proofs.lemmas.Int.{ints, to_z-of_z}
-use Rattle.scattering.specs.Series.{Sum, pow, power, mass_to}
-use Rattle.trunc_series.specs.declared.arithmetic.Arithmetic.TheVariants.{Wrapping}
+use Rattle.scattering.specs.Series.{Sum, power, mass_to}
 use Rattle.trunc_series.specs.Shown.{sum_of, majorant_power}
-use Rattle.trunc_series.specs.Reduced.{IsReduced}
 use Rattle.trunc_series.proofs.Exact.{Made, own}
 use Rattle.trunc_series.proofs.PowerLaws.{rest-tame}
 use Rattle.trunc_series.proofs.Inverses.{made-power, power-positive, power-negative}
