@@ -1,12 +1,12 @@
 -- A key in a sorted list: what stands before it, after it, and at it.
-use Rattle.std.proofs.Common.{◌≡◌, ℕ, zero, suc, ◌+◌, ◌<◌, ◌≤◌, refl, sym, subst, ap, ◌∙◌, List, [], ◌∷◌, ◌++◌, length, get_or, take, drop, add-one, arith, Bool, true, false}
-use Rattle.std.specs.Prelude.{ℤ, pos, ◌+ℤ◌, IsTrue}
+use Rattle.std.proofs.Common.{◌≡◌, ℕ, zero, suc, ◌+◌, ◌<◌, refl, sym, subst, ◌∙◌, List, [], ◌∷◌, length, take, drop, add-one, arith, Bool, true, false}
+use Rattle.std.specs.Prelude.{ℤ, pos, IsTrue}
 use Rattle.std.specs.declared.cmp.Ordering.TheVariants.{Less, Equal, Greater}
-use Rattle.scattering.specs.Collections.{Every, EveryPair}
+use Rattle.scattering.specs.Collections.{EveryPair}
 use Rattle.scattering.specs.Series.{Key, Term, Sum, key_before, key_eq, coef}
 use Rattle.scattering.proofs.Keys.{key_eq-refl, key_eq-same}
 use Rattle.trunc_series.specs.declared.key.Key.{Key as CodeKey}
-use Rattle.trunc_series.specs.Shown.{key_of, term_of, sum_of}
+use Rattle.trunc_series.specs.Shown.{key_of, sum_of}
 use Rattle.trunc_series.specs.Reduced.{key_order}
 use Rattle.trunc_series.proofs.Order.{key_before-trans, key_before-same, key_before-irrefl}
 use Rattle.trunc_series.proofs.Coefficients.{Every-weaker, apart, coef-none, coef-append, skip-zero, add-zero}
@@ -16,7 +16,7 @@ abbrev pub Rises : Sum → Type 0
 Rises f = EveryPair (λ t u. IsTrue (key_before t.0 u.0)) f
 
 -- the other way round
-apart-back : (k l : Key) → key_before k l ≡ true → key_eq k l ≡ false
+pub apart-back : (k l : Key) → key_before k l ≡ true → key_eq k l ≡ false
 apart-back k l h = go (key_eq k l) refl
   where
     go : (b : Bool) → key_eq k l ≡ b → b ≡ false

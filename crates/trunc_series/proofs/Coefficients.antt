@@ -1,15 +1,15 @@
 -- The coefficients of a list of terms.
-use Rattle.std.proofs.Common.{◌≡◌, ◌≢◌, ℕ, ◌+◌, ◌≤◌, ◌<◌, refl, sym, subst, ap, ◌∙◌, Bool, true, false, cond, List, [], ◌∷◌, ◌++◌, arith, ◌⊎◌, inl, inr}
+use Rattle.std.proofs.Common.{◌≡◌, ◌≢◌, ℕ, ◌+◌, ◌≤◌, refl, sym, subst, Bool, true, false, cond, List, [], ◌∷◌, ◌++◌, arith}
 use Rattle.std.specs.Prelude.{ℤ, pos, ◌+ℤ◌, nat_abs, IsTrue}
 use Rattle.std.proofs.lemmas.Int.{ints}
 use Rattle.std.proofs.lemmas.Bool.{le-leb}
 use Rattle.scattering.specs.Collections.{Every, EveryPair}
-use Rattle.scattering.specs.Series.{Key, Term, Sum, IsSeries, degree, key_eq, key_before, coef, coef_at, mass_to}
+use Rattle.scattering.specs.Series.{Key, Term, Sum, degree, key_eq, key_before, coef, coef_at, mass_to}
 use Rattle.scattering.proofs.Keys.{key_eq-same, key_eq-refl}
 use Rattle.trunc_series.specs.declared.arithmetic.Arithmetic.{Arithmetic}
-use Rattle.trunc_series.specs.Arithmetic.{kept, IsKeepable}
+use Rattle.trunc_series.specs.Arithmetic.{IsKeepable}
 use Rattle.trunc_series.proofs.Order.{key_before-irrefl}
-use Rattle.trunc_series.proofs.Kept.{keepable-zero, keepable-add, kept-zero}
+use Rattle.trunc_series.proofs.Kept.{keepable-zero, keepable-add}
 
 -- ---- facts about each element
 

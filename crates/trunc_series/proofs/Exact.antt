@@ -1,18 +1,17 @@
 -- What is kept modulo 2^128 is exact where the true coefficients are below 2^127.
-use Rattle.std.proofs.Common.{◌≡◌, ◌≢◌, ◌+◌, ◌++◌, subst, cond, Bool, true, false, ℕ, ◌<◌, ◌≤◌, ◌^◌, refl, sym, ap, ◌∙◌, arith, FitsSigned, List, [], ◌∷◌}
+use Rattle.std.proofs.Common.{◌≡◌, ◌≢◌, ◌+◌, ◌++◌, subst, cond, Bool, true, false, ℕ, ◌<◌, ◌≤◌, ◌^◌, refl, sym, ap, ◌∙◌, arith, List, [], ◌∷◌}
 use Rattle.std.specs.Prelude.{ℤ, pos, nat_abs, IsTrue, nat_le, filter}
 use Rattle.std.specs.Int.{int_wrap}
-use Rattle.std.proofs.lemmas.Int.{int_wrap_fits, SFits-int_wrap, fits_signed_from_abs}
+use Rattle.std.proofs.lemmas.Int.{int_wrap_fits, fits_signed_from_abs}
 use mir.Syntax.{w128}
 use Rattle.scattering.specs.Collections.{Every, EveryPair}
 use Rattle.scattering.specs.Series.{Key, Term, Sum, IsSeries, Same, coef, degree, cut, mass_to, key_before}
 use Rattle.trunc_series.specs.declared.key.Key.{Key as CodeKey}
-use Rattle.trunc_series.specs.declared.arithmetic.Arithmetic.{Arithmetic}
 use Rattle.trunc_series.specs.declared.arithmetic.Arithmetic.TheVariants.{Wrapping}
 use Rattle.trunc_series.specs.Shown.{key_of, term_of, sum_of, IsValid, IsTerm}
 use Rattle.trunc_series.specs.Arithmetic.{kept, IsKeepable}
 use Rattle.trunc_series.specs.Reduced.{IsReduced}
-use Rattle.trunc_series.proofs.Coefficients.{Every-weaker, Apart, apart-rising, apart-distinct, coef-has, has-coef, abs-sum}
+use Rattle.trunc_series.proofs.Coefficients.{Every-weaker, apart-rising, apart-distinct, coef-has, has-coef, abs-sum}
 
 pub wrap-small : (c : ℤ) → nat_abs c < 2 ^ 127 → int_wrap w128 c ≡ c
 wrap-small c h = int_wrap_fits w128 c (fits_signed_from_abs w128 c h)
@@ -85,7 +84,7 @@ rises-cut n (t ∷ f) h = go (nat_le (degree t.0) n) (rises-cut n f h.1)
     go true i = (Every-cut (λ u. IsTrue (key_before t.0 u.0)) n f h.0, i)
     go false i = i
 
-low-cut : (n : ℕ) (f : Sum) → Every (λ t. degree t.0 ≤ n) (cut n f)
+pub low-cut : (n : ℕ) (f : Sum) → Every (λ t. degree t.0 ≤ n) (cut n f)
 low-cut n [] = tt
 low-cut n (t ∷ f) = go (nat_le (degree t.0) n) refl (low-cut n f)
   where

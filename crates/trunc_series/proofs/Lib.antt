@@ -8,3 +8,11 @@ pub mod Exact
 pub mod Bisection
 pub mod Mass
 pub mod Rows
+pub mod Factors
+pub mod Products
+pub mod Majorants
+pub mod Congruence
+pub mod Associate
+pub mod PowerLaws
+pub mod Inverses
+pub mod Unique

@@ -1,12 +1,11 @@
 -- Like terms added, the mass does not grow; so the mass of a series is at most that of each sum with its coefficients.
-use Rattle.std.proofs.Common.{◌≡◌, ℕ, ◌+◌, ◌≤◌, refl, sym, subst, ap, ◌∙◌, Bool, true, false, cond, not, List, [], ◌∷◌, ◌++◌, arith}
-use Rattle.std.specs.Prelude.{ℤ, pos, ◌+ℤ◌, nat_abs, nat_le, IsTrue}
+use Rattle.std.proofs.Common.{◌≡◌, ℕ, ◌+◌, ◌≤◌, refl, sym, subst, ◌∙◌, Bool, true, false, cond, [], ◌∷◌, arith}
+use Rattle.std.specs.Prelude.{ℤ, pos, ◌+ℤ◌, nat_abs, nat_le}
 use Rattle.std.proofs.lemmas.Int.{ints}
-use Rattle.scattering.specs.Collections.{Every, EveryPair}
-use Rattle.scattering.specs.Series.{Key, Term, Sum, IsSeries, Same, degree, key_eq, key_before, coef, mass_to}
+use Rattle.scattering.specs.Series.{Key, Term, Sum, IsSeries, Same, degree, key_eq, coef, mass_to}
 use Rattle.scattering.proofs.Keys.{key_eq-same, key_eq-refl}
 use Rattle.scattering.proofs.Pairing.{without, coef-without}
-use Rattle.trunc_series.proofs.Coefficients.{Apart, apart-rising, coef-none, skip-zero, add-zero, coef-none_at}
+use Rattle.trunc_series.proofs.Coefficients.{Apart, apart-rising, skip-zero, add-zero, coef-none_at}
 
 -- a term's part of the mass
 abbrev part : ℕ → Term → ℕ

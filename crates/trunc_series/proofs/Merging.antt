@@ -1,14 +1,14 @@
 -- The terms of two sorted lists as one sorted list, like terms added.
-use Rattle.std.proofs.Common.{◌≡◌, ◌≢◌, ℕ, refl, sym, subst, ap, ◌∙◌, Bool, true, false, cond, List, [], ◌∷◌, ◌++◌, arith}
+use Rattle.std.proofs.Common.{◌≡◌, ◌≢◌, ℕ, refl, sym, subst, ap, ◌∙◌, Bool, true, false, cond, [], ◌∷◌, ◌++◌, arith}
 use Rattle.std.specs.Prelude.{ℤ, pos, ◌+ℤ◌, IsTrue, ◌≤◌}
 use Rattle.std.proofs.lemmas.Int.{ints}
 use Rattle.scattering.specs.Collections.{Every, EveryPair}
-use Rattle.scattering.specs.Series.{Key, Term, Sum, IsSeries, degree, int_eq, key_eq, key_before, coef, coef_at}
+use Rattle.scattering.specs.Series.{Key, Term, Sum, degree, int_eq, key_eq, key_before, coef, coef_at}
 use Rattle.trunc_series.specs.declared.arithmetic.Arithmetic.{Arithmetic}
 use Rattle.trunc_series.specs.Arithmetic.{kept, IsKeepable}
 use Rattle.trunc_series.specs.Reduced.{IsReduced}
 use Rattle.trunc_series.proofs.Order.{key_before-same, key_before-trans}
-use Rattle.trunc_series.proofs.Kept.{keepable-add, keepable-kept, kept-zero, kept-kept, kept-add_left, kept-same_right, kept-same_left}
+use Rattle.trunc_series.proofs.Kept.{keepable-add, keepable-kept, kept-kept, kept-same_right, kept-same_left}
 use Rattle.trunc_series.proofs.Coefficients.{Every-weaker, Every-append, skip-zero, add-zero, coef-append, keepable-at, keepable-coef}
 
 module _ (rule : Arithmetic) where

@@ -2,7 +2,7 @@
 use Rattle.std.proofs.Common.{◌≡◌, ℕ, ◌+◌, refl, sym, subst, ap, ◌∙◌, Bool, true, false, arith, ◌⊎◌, inl, inr}
 use Rattle.std.specs.Prelude.{ℤ, ◌&&◌, ◌||◌, nat_lt, ◌==◌, ◌+ℤ◌, int_lt}
 use Rattle.std.proofs.lemmas.Int.{ints}
-use Rattle.scattering.specs.Series.{Key, Exp, Powers, key_before, exp_before, exp_eq, powers_before, int_eq, key_mul, exp_add, powers_add}
+use Rattle.scattering.specs.Series.{Key, Exp, Powers, key_before, exp_before, exp_eq, powers_before, int_eq, key_mul, powers_add}
 use Rattle.scattering.proofs.Keys.{exp_eq-same}
 
 -- ---- one place of a lexicographic order

@@ -1,15 +1,15 @@
 -- Products of lists of terms, row by row.
-use Rattle.std.proofs.Common.{◌≡◌, ◌≢◌, ℕ, zero, suc, ◌+◌, ◌-◌, ◌<◌, ◌≤◌, refl, sym, subst, ap, ◌∙◌, Bool, true, false, cond, List, [], ◌∷◌, ◌++◌, append_assoc, arith}
-use Rattle.std.specs.Prelude.{ℤ, pos, ◌+ℤ◌, ◌*ℤ◌, IsTrue, nat_le, nat_lt, ◌==◌, map, filter, flat_map}
+use Rattle.std.proofs.Common.{◌≡◌, ◌≢◌, ℕ, ◌+◌, ◌-◌, ◌≤◌, refl, sym, subst, ap, ◌∙◌, Bool, true, false, cond, [], ◌∷◌, ◌++◌, append_assoc, arith}
+use Rattle.std.specs.Prelude.{ℤ, pos, ◌+ℤ◌, ◌*ℤ◌, IsTrue, nat_le, nat_lt, ◌==◌, map, filter}
 use Rattle.std.proofs.lemmas.Int.{ints}
 use Rattle.scattering.specs.Collections.{Every, EveryPair}
-use Rattle.scattering.specs.Series.{Key, Term, Sum, IsSeries, Same, degree, int_eq, key_eq, key_before, key_mul, term_mul, coef, coef_at, cut, mul}
+use Rattle.scattering.specs.Series.{Key, Term, Sum, Same, degree, int_eq, key_eq, key_before, key_mul, term_mul, coef, coef_at, cut, mul}
 use Rattle.trunc_series.specs.declared.arithmetic.Arithmetic.{Arithmetic}
 use Rattle.trunc_series.specs.Arithmetic.{kept, IsKeepable}
-use Rattle.trunc_series.specs.Reduced.{IsReduced}
+use Rattle.trunc_series.specs.Reduced.{IsReduced, pairs}
 use Rattle.trunc_series.proofs.Order.{key_before-mul}
-use Rattle.trunc_series.proofs.Kept.{keepable-zero, keepable-add, keepable-mul, keepable-kept, kept-zero, kept-kept, kept-add_left, kept-same_right, kept-same_left}
-use Rattle.trunc_series.proofs.Coefficients.{Every-weaker, Every-append, skip-zero, add-zero, coef-append, keepable-at, keepable-coef}
+use Rattle.trunc_series.proofs.Kept.{keepable-mul, keepable-kept, kept-kept, kept-same_right, kept-same_left}
+use Rattle.trunc_series.proofs.Coefficients.{Every-weaker, Every-append, coef-append, keepable-at, keepable-coef}
 use Rattle.trunc_series.proofs.Merging.{add_term, add_term-coef, Keepable}
 
 -- a term times a list
@@ -30,6 +30,7 @@ module _ (rule : Arithmetic) (t : Term) where
     where
       nonzero : (c : ℤ) → int_eq c (pos 0) ≡ false → c ≢ pos 0
       nonzero c e z = absurd (let q : int_eq (pos 0) (pos 0) ≡ false = subst (λ (w : ℤ). int_eq w (pos 0) ≡ false) z e in cc)
+
       go : (b : Bool) → int_eq (kept rule (t.1 *ℤ u.1)) (pos 0) ≡ b → Every P (row_of g) → Every P (cond b (row_of g) (product_of u ∷ row_of g))
       go true e i = i
       go false e i = (h.0 (nonzero _ e), i)
@@ -80,10 +81,6 @@ module _ (rule : Arithmetic) (t : Term) where
 
 -- ---- all rows
 
--- all pairs, none dropped
-abbrev pub pairs : Sum → Sum → Sum
-pairs f g = flat_map (λ t. row_sum t g) f
-
 pub pairs-append : (e f g : Sum) → pairs (e ++ f) g ≡ pairs e g ++ pairs f g
 pairs-append [] f g = refl
 pairs-append (t ∷ e) f g = ap (λ r. row_sum t g ++ r) (pairs-append e f g) ∙ sym (append_assoc (row_sum t g) (pairs e g) (pairs f g))
@@ -102,6 +99,7 @@ row-cut n t (u ∷ g) h = rw same (go (nat_le (degree u.0) (n - degree t.0)) (ro
   where
     same : nat_le (degree (key_mul t.0 u.0)) n ≡ nat_le (degree u.0) (n - degree t.0)
     same = let e : degree (key_mul t.0 u.0) ≡ degree t.0 + degree u.0 = omega arith in rw e (grind arith)
+
     go : (b : Bool) → cut n (row_sum t g) ≡ row_sum t (cut (n - degree t.0) g) → cond b (term_mul t u ∷ cut n (row_sum t g)) (cut n (row_sum t g)) ≡ row_sum t (cond b (u ∷ cut (n - degree t.0) g) (cut (n - degree t.0) g))
     go true e = ap (λ r. term_mul t u ∷ r) e
     go false e = e
@@ -130,6 +128,7 @@ module _ (n d : ℕ) (g : Sum) (k : Key) (low : d ≤ n) where
       mul-cond : (b : Bool) (t : Term) (f : Sum) → mul n (cond b (t ∷ f) f) g ≡ cond b (cut n (row_sum t g) ++ mul n f g) (mul n f g)
       mul-cond true t f = refl
       mul-cond false t f = refl
+
       pairs-cond : (b : Bool) (t : Term) (f : Sum) → pairs (cond b (t ∷ f) f) (cut (n - d) g) ≡ cond b (row_sum t (cut (n - d) g) ++ pairs f (cut (n - d) g)) (pairs f (cut (n - d) g))
       pairs-cond true t f = refl
       pairs-cond false t f = refl
@@ -161,6 +160,7 @@ level-degree n (t ∷ f) = go (degree t.0 == n) refl (level-degree n f)
   where
     same : (d : ℕ) → (d == n) ≡ true → d ≡ n
     same d e = grind arith
+
     go : (b : Bool) → (degree t.0 == n) ≡ b → Every (λ t. degree t.0 ≡ n) (level n f) → Every (λ t. degree t.0 ≡ n) (cond b (t ∷ level n f) (level n f))
     go true e i = (same (degree t.0) e, i)
     go false e i = i

@@ -1,5 +1,5 @@
 -- How coefficients are kept: modulo 2^128, or as the lesser of their value and a limit.
-use Rattle.std.specs.Prelude.{◌≡◌, ℕ, ◌+◌, ◌^◌, ℤ, pos, ◌≤ℤ◌}
+use Rattle.std.specs.Prelude.{◌+◌, ◌^◌, ℤ, pos, ◌≤ℤ◌}
 use Rattle.std.specs.Int.{int_wrap, int_min}
 use mir.Syntax.{w128}
 use Rattle.trunc_series.specs.declared.arithmetic.Arithmetic.{Arithmetic}
@@ -7,7 +7,7 @@ use Rattle.trunc_series.specs.declared.arithmetic.Arithmetic.TheVariants.{Wrappi
 
 -- 2^126 + 1
 abbrev pub limit : ℤ
-limit = pos 85070591730234615865843651857942052865
+limit = pos (2 ^ 126 + 1)
 
 -- a whole number as it is kept
 abbrev pub kept : Arithmetic → ℤ → ℤ

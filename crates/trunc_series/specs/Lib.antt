@@ -1,3 +1,5 @@
 pub mod Shown
 pub mod Arithmetic
 pub mod Reduced
+pub mod Capped
+pub mod Worked

@@ -1,10 +1,11 @@
 -- A sorted list of terms that stands for a sum, as the crate's own functions hand it on.
-use Rattle.std.specs.Prelude.{◌≡◌, ℕ, cond}
+use Rattle.std.specs.Prelude.{◌≡◌, ℕ, ◌+◌, ◌*◌, ◌<◌, ◌≤◌, ◌^◌, cond, pos, nat_abs, IsTrue, map, flat_map}
 use Rattle.std.specs.declared.cmp.Ordering.{Ordering}
 use Rattle.std.specs.declared.cmp.Ordering.TheVariants.{Less, Equal, Greater}
-use Rattle.scattering.specs.Collections.{Every}
-use Rattle.scattering.specs.Series.{Key, Sum, IsSeries, key_before, coef}
+use Rattle.scattering.specs.Collections.{Every, EveryPair}
+use Rattle.scattering.specs.Series.{Key, Sum, IsSeries, key_before, coef, degree, term_mul}
 use Rattle.trunc_series.specs.declared.arithmetic.Arithmetic.{Arithmetic}
+use Rattle.trunc_series.specs.declared.arithmetic.Arithmetic.TheVariants.{Saturating}
 use Rattle.trunc_series.specs.Arithmetic.{kept, IsKeepable}
 
 -- how two keys stand
@@ -17,3 +18,29 @@ pub record IsReduced (rule : Arithmetic) (n : ℕ) (f g : Sum) : Type 0 where
   pub keeps : Every (λ t. (kept rule t.1 ≡ t.1) × IsKeepable rule t.1) f
   pub keepable : Every (λ t. IsKeepable rule t.1) g
   pub same : (k : Key) → kept rule (coef f k) ≡ kept rule (coef g k)
+
+-- an exponent that can be added to another in an i32
+abbrev pub IsNearKey : Key → Type 0
+IsNearKey k = (nat_abs k.exp.a < 2 ^ 29) × (nat_abs k.exp.b < 2 ^ 29)
+
+-- a sorted list that is multiplied
+pub record IsFactor (rule : Arithmetic) (f : Sum) : Type 0 where
+  pub rises : EveryPair (λ t u. IsTrue (key_before t.0 u.0)) f
+  pub keepable : Every (λ t. IsKeepable rule t.1) f
+  pub near : Every (λ t. IsNearKey t.0) f
+
+-- the degrees of each pair sum to at most n
+abbrev pub PairsFit : ℕ → Sum → Sum → Type 0
+PairsFit n f g = Every (λ t. Every (λ u. degree t.0 + degree u.0 ≤ n) g) f
+
+-- all pairs of terms
+abbrev pub pairs : Sum → Sum → Sum
+pairs f g = flat_map (λ t. map (term_mul t) g) f
+
+-- the absolute values of the coefficients, as they are kept
+abbrev pub absolute_sum : Sum → Sum
+absolute_sum f = map (λ t. (t.0, kept Saturating (pos (nat_abs t.1)))) f
+
+-- no exponent grows faster than the degree
+abbrev pub IsTame : Key → Type 0
+IsTame k = (nat_abs k.exp.a ≤ degree k * 2 ^ 16) × (nat_abs k.exp.b ≤ degree k * 2 ^ 16)

@@ -2,9 +2,9 @@
 --     key_of, sum_of           a key, and a list of terms, of the program
 --     Seen                     what contracts see of a series: its order and its terms
 --     IsSeriesOf s n f         s is the series of order n with the coefficients of f
-use Rattle.std.specs.Prelude.{◌≡◌, ℕ, ◌<◌, ◌≤◌, ◌^◌, ◌≢◌, ℤ, pos, nat_abs, List, map, slice_index}
+use Rattle.std.specs.Prelude.{◌≡◌, ℕ, ◌<◌, ◌≤◌, ◌^◌, ◌≢◌, ℤ, pos, negsuc, suc, nat_abs, List, map, slice_index}
 use Rattle.scattering.specs.Collections.{Every}
-use Rattle.scattering.specs.Series.{Exp, Powers, Key, Term, Sum, IsSeries, Same, degree}
+use Rattle.scattering.specs.Series.{Exp, Powers, Key, Term, Sum, IsSeries, Same, degree, pow, absolute, geometric}
 use Rattle.trunc_series.specs.declared.key.Exp.{Exp as CodeExp}
 use Rattle.trunc_series.specs.declared.key.Key.{Key as CodeKey}
 
@@ -47,3 +47,8 @@ pub record IsValid (n : ℕ) (f : Sum) : Type 0 where
 -- no exponent is above 2^16 in absolute value
 abbrev pub IsNear : Sum → Type 0
 IsNear f = Every (λ t. (nat_abs t.0.exp.a ≤ 2 ^ 16) × (nat_abs t.0.exp.b ≤ 2 ^ 16)) f
+
+-- what bounds the powers of f: those of |f|, or of 1/(2 - |f|)
+abbrev pub majorant_power : ℕ → Sum → ℤ → Sum
+majorant_power n f (pos i) = pow n (absolute f) i
+majorant_power n f (negsuc i) = pow n (geometric n f) (suc i)

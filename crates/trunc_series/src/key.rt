@@ -1,9 +1,9 @@
 // Keys: the powers of t1 to t8 and an exponent.
 
-ghost use Rattle.std.specs.Prelude.{◌≡◌, ◌≤◌};
-ghost use Rattle.scattering.specs.Series.{degree};
+ghost use Rattle.std.specs.Prelude.{◌≡◌, ◌≤◌, ◌<◌, ◌+◌};
+ghost use Rattle.scattering.specs.Series.{degree, key_eq, key_mul, unit};
 ghost use Rattle.trunc_series.specs.Shown.{key_of};
-ghost use Rattle.trunc_series.specs.Reduced.{key_order};
+ghost use Rattle.trunc_series.specs.Reduced.{key_order, IsNearKey};
 
 use std::cmp::Ordering;
 
@@ -44,4 +44,38 @@ pub fn compare(k: &Key, l: &Key) -> Ordering
     ensures { result ≡ key_order (key_of k.now) (key_of l.now) }
 {
     k.cmp(l)
+}
+
+/// Whether it is the constant key.
+pub fn is_constant(k: &Key) -> bool
+    ensures { result ≡ key_eq (key_of k.now) unit }
+{
+    k.exp.a == 0 && k.exp.b == 0 && k.degree() == 0
+}
+
+/// The product of two monomials.
+pub fn times(k: &Key, l: &Key) -> Key
+    requires degrees { degree (key_of k.now) + degree (key_of l.now) < 256 }
+    requires left { IsNearKey (key_of k.now) }
+    requires right { IsNearKey (key_of l.now) }
+    ensures { key_of result ≡ key_mul (key_of k.now) (key_of l.now) }
+{
+    let p = k.powers;
+    let q = l.powers;
+    Key {
+        exp: Exp {
+            a: k.exp.a + l.exp.a,
+            b: k.exp.b + l.exp.b,
+        },
+        powers: [
+            p[0] + q[0],
+            p[1] + q[1],
+            p[2] + q[2],
+            p[3] + q[3],
+            p[4] + q[4],
+            p[5] + q[5],
+            p[6] + q[6],
+            p[7] + q[7],
+        ],
+    }
 }

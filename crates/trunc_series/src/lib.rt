@@ -5,10 +5,14 @@
 
 mod arithmetic;
 mod key;
+mod majorant;
 mod merge;
+mod power;
+mod product;
 mod series;
 
 pub use key::{Exp, Key};
+pub use majorant::Majorant;
 pub use series::Series;
 
 #[cfg(test)]

@@ -5,10 +5,10 @@ ghost use Rattle.scattering.specs.Collections.{Every, EveryPair};
 ghost use Rattle.scattering.specs.Series.{Sum, key_before, degree};
 ghost use Rattle.trunc_series.specs.Shown.{key_of, sum_of, IsTerm};
 ghost use Rattle.trunc_series.specs.Arithmetic.{IsKeepable};
-ghost use Rattle.trunc_series.specs.Reduced.{IsReduced};
+ghost use Rattle.trunc_series.specs.Reduced.{IsReduced, absolute_sum};
 
 use crate::Key;
-use crate::arithmetic::{Arithmetic, sum};
+use crate::arithmetic::{Arithmetic, absolute, sum};
 use crate::key::compare;
 use std::alloc::{AllocError, Global};
 use std::cmp::Ordering;
@@ -99,4 +99,15 @@ pub fn low_terms(
 {
     let low = terms.iter().filter(|t| t.0.degree() <= order);
     low.copied().collect(alloc)
+}
+
+/// The terms with the absolute values of their coefficients, as they are kept.
+pub fn absolutes(alloc: Global, terms: &[(Key, i128)]) -> Result<Vec<(Key, i128)>, AllocError>
+    ensures { IfOk result (λ r. sum_of r.items ≡ absolute_sum (sum_of terms.now)) }
+{
+    let mut out = Vec::with_capacity(alloc, terms.len())?;
+    for t in terms {
+        out.push((t.0, absolute(&t.1)))?;
+    }
+    Ok(out)
 }

@@ -2,12 +2,14 @@
 
 ghost use Rattle.std.specs.Prelude.{◌≡◌, ◌≢◌, ◌≤◌, ◌<◌, ◌+◌, ◌^◌, [], ◌∷◌, ◌++◌, pos, nat_abs, IfOk};
 ghost use Rattle.scattering.specs.Collections.{Every, EveryPair};
-ghost use Rattle.scattering.specs.Series.{IsSeries, one, coef, cut, mass_to};
-ghost use Rattle.trunc_series.specs.Shown.{key_of, sum_of, IsTerm, IsSeriesOf, IsValid};
+ghost use Rattle.scattering.specs.Series.{one, unit, degree, rest, coef, cut, mul, power, absolute, mass_to};
+ghost use Rattle.trunc_series.specs.Shown.{key_of, sum_of, IsTerm, IsSeriesOf, IsValid, IsNear, majorant_power};
 
 use crate::arithmetic::Arithmetic;
 use crate::key::{Key, compare};
 use crate::merge::{collected, low_terms, merged, rises};
+use crate::power::{inverse_powered, powered};
+use crate::product::multiplied;
 use std::alloc::{AllocError, Global};
 use std::cmp::Ordering;
 use std::marker::Model;
@@ -143,6 +145,47 @@ impl Series {
         })
     }
 
+    /// The product without terms of degree above the order.
+    pub fn mul(&self, other: &Series) -> Result<Series, AllocError>
+        requires order { other.now.order ≡ self.now.order }
+        requires near { IsNear self.now.terms }
+        requires near_too { IsNear other.now.terms }
+        requires mass { mass_to self.now.order (mul self.now.order (absolute self.now.terms) (absolute other.now.terms)) ≤ 2 ^ 126 }
+        ensures { IfOk result (λ s. IsSeriesOf s self.now.order (mul self.now.order self.now.terms other.now.terms)) }
+    {
+        let left = self.terms.as_slice();
+        let right = other.terms.as_slice();
+        let terms = multiplied(self.alloc, Arithmetic::Wrapping, self.order, left, right)?;
+        Ok(Series {
+            alloc: self.alloc,
+            order: self.order,
+            terms,
+        })
+    }
+
+    /// The power of either sign without terms of degree above the order, of a series that is 1 and terms of
+    /// degree at least 1. `mass` bounds the majorant's power: that of |f|, or of 1/(2 - |f|) for 1/f.
+    pub fn power(&self, n: i32) -> Result<Series, AllocError>
+        requires constant { coef self.now.terms unit ≡ pos 1 }
+        requires others { Every (λ t. 1 ≤ degree t.0) (rest self.now.terms) }
+        requires near { IsNear self.now.terms }
+        requires mass { mass_to self.now.order (majorant_power self.now.order self.now.terms n) ≤ 2 ^ 126 }
+        ensures { IfOk result (λ s. IsSeriesOf s self.now.order (power self.now.order self.now.terms n)) }
+    {
+        let f = self.terms.as_slice();
+        let count = n.unsigned_abs();
+        let terms = if n < 0 {
+            inverse_powered(self.alloc, self.order, f, count)?
+        } else {
+            powered(self.alloc, Arithmetic::Wrapping, self.order, f, count)?
+        };
+        Ok(Series {
+            alloc: self.alloc,
+            order: self.order,
+            terms,
+        })
+    }
+
     /// The terms of degree at most `order`.
     pub fn truncate(&self, order: u32) -> Result<Series, AllocError>
         requires { order ≤ self.now.order }
@@ -154,6 +197,10 @@ impl Series {
             order,
             terms,
         })
+    }
+
+    pub(crate) fn allocator(&self) -> Global {
+        self.alloc
     }
 
     pub fn copy(&self) -> Result<Series, AllocError>

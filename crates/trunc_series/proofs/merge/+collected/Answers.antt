@@ -1,11 +1,8 @@
-use Rattle.std.proofs.Common.{arith, sym, subst, length, take, drop, ◌/◌, ◌++◌, List, ◌^◌, ◌<◌}
-use Rattle.std.specs.Prelude.{nat_abs}
+use Rattle.std.proofs.Common.{arith, length, take, drop, ◌/◌}
 use Rattle.std.proofs.lemmas.Result.{IfOk-weaker}
-use Rattle.scattering.specs.Series.{Sum, IsSeries, degree}
-use Rattle.scattering.specs.Collections.{Every}
+use Rattle.scattering.specs.Series.{Sum}
 use Rattle.trunc_series.specs.declared.arithmetic.Arithmetic.TheVariants.{Wrapping}
 use Rattle.trunc_series.specs.Shown.{sum_of, IsTerm}
-use Rattle.trunc_series.specs.Reduced.{IsReduced}
 use Rattle.trunc_series.proofs.Coefficients.{Every-weaker, Every-left, Every-right}
 use Rattle.trunc_series.proofs.Merging.{whole}
 use Rattle.trunc_series.proofs.Terms.{sum_of-halves, rises-short}

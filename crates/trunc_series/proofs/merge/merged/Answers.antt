@@ -1,5 +1,5 @@
 use Rattle.std.proofs.Common.{rules, arith, ap, FitsSigned, to_z, of_z, length, ◌<◌, ◌≤◌, sym, ◌∙◌, inl, inr, ◌⊎◌}
-use Rattle.trunc_series.proofs.Merging.{merge, merge-reduced}
+use Rattle.trunc_series.proofs.Merging.{merge-reduced}
 use Rattle.trunc_series.proofs.Terms.{Every-at, step-less, step-greater, step-equal, step-gone, merge-ended}
 use Rattle.std.proofs.lemmas.Int.{to_z-of_z}
 use mir.Syntax.{w128}

@@ -1,8 +1,4 @@
-use Rattle.std.proofs.Common.{arith, ℕ, suc, ◌+◌, ◌<◌, ◌≡◌, ◌∙◌, sym, subst, length}
-use Rattle.std.specs.Prelude.{IsTrue}
-use Rattle.std.proofs.Math.Decide.{dec_le}
-use Rattle.scattering.specs.Series.{key_before}
-use Rattle.trunc_series.specs.Shown.{key_of}
+use Rattle.std.proofs.Common.{arith, ◌∙◌, sym}
 use Rattle.trunc_series.proofs.Terms.{index-less, adjacent-more, rises-adjacent}
 use Rattle.trunc_series.proofs.merge.rises.Goals as goal
 

@@ -1,11 +1,11 @@
-use Rattle.std.proofs.Common.{◌≡◌, ◌+◌, ◌-◌, ◌<◌, ◌≤◌, ◌^◌, ◌/◌, ℕ, arith, ap, sym, subst, ◌∙◌, refl, length, take, drop, FitsSigned, to_z, of_z}
-use Rattle.std.specs.Prelude.{ℤ, nat_abs}
+use Rattle.std.proofs.Common.{◌≡◌, ◌+◌, ◌-◌, ◌<◌, ◌^◌, ◌/◌, ℕ, arith, ap, sym, ◌∙◌, refl, length}
+use Rattle.std.specs.Prelude.{nat_abs}
 use Rattle.std.proofs.lemmas.Int.{to_z-of_z, fits_signed_from_abs}
 use mir.Syntax.{w128}
-use Rattle.scattering.specs.Series.{Key, coef}
+use Rattle.scattering.specs.Series.{coef}
 use Rattle.trunc_series.specs.Shown.{key_of, sum_of}
 use Rattle.trunc_series.proofs.Terms.{at, Every-at}
-use Rattle.trunc_series.proofs.Bisection.{Rises, none-before, none-after, found, nowhere, order-less, order-greater, order-equal}
+use Rattle.trunc_series.proofs.Bisection.{none-before, none-after, found, nowhere, order-less, order-greater, order-equal}
 use Rattle.trunc_series.proofs.series.Series.coefficient.Goals as goal
 
 pub search-preserved-in-Less : goal.search-preserved-in-Less

@@ -1,5 +1,5 @@
-use Rattle.std.proofs.Common.{◌≡◌, refl, sym, subst, ◌∙◌, ap}
-use Rattle.scattering.specs.Series.{Sum, cut}
+use Rattle.std.proofs.Common.{refl}
+use Rattle.scattering.specs.Series.{cut}
 use Rattle.trunc_series.specs.Shown.{sum_of}
 use Rattle.trunc_series.proofs.Exact.{Made, made-cut, sum_of-filter}
 use Rattle.trunc_series.proofs.series.Series.truncate.Goals as goal

@@ -1,0 +1,103 @@
+-- Parts of factors are factors, and the steps of the program's products.
+use Rattle.std.proofs.Common.{◌≡◌, ◌≢◌, ℕ, ◌+◌, ◌-◌, ◌<◌, ◌≤◌, refl, sym, ap, ◌∙◌, Bool, true, false, cond, List, [], ◌∷◌, ◌++◌, length, drop, arith}
+use Rattle.std.specs.Prelude.{ℤ, pos, ◌*ℤ◌, filter}
+use Rattle.std.proofs.lemmas.List.{drop_all, append-nil}
+use Rattle.std.proofs.lemmas.Int.{ints}
+use Rattle.scattering.specs.Collections.{Every, EveryPair}
+use Rattle.scattering.specs.Series.{Term, Sum, degree, int_eq, key_mul, cut}
+use Rattle.trunc_series.specs.declared.key.Key.{Key as CodeKey}
+use Rattle.trunc_series.specs.declared.arithmetic.Arithmetic.{Arithmetic}
+use Rattle.trunc_series.specs.Shown.{key_of, term_of, sum_of}
+use Rattle.trunc_series.specs.Arithmetic.{kept}
+use Rattle.trunc_series.specs.Reduced.{IsReduced, IsFactor, PairsFit, pairs}
+use Rattle.trunc_series.proofs.Coefficients.{Every-weaker, Every-left, Every-right}
+use Rattle.trunc_series.proofs.Terms.{at, sum_of-drop, sum_of-push}
+use Rattle.trunc_series.proofs.Merging.{add_term}
+use Rattle.trunc_series.proofs.Exact.{low-cut}
+use Rattle.trunc_series.proofs.Rows.{row_of, row_sum, level, level-degree, Every-filter}
+
+-- ---- parts
+
+pair-left : {A : Type 0} (R : A → A → Type 0) (xs ys : List A) → EveryPair R (xs ++ ys) → EveryPair R xs
+pair-left R [] ys h = tt
+pair-left R (x ∷ xs) ys h = (Every-left (R x) xs ys h.0, pair-left R xs ys h.1)
+
+pair-right : {A : Type 0} (R : A → A → Type 0) (xs ys : List A) → EveryPair R (xs ++ ys) → EveryPair R ys
+pair-right R [] ys h = h
+pair-right R (x ∷ xs) ys h = pair-right R xs ys h.1
+
+pub pair-filter : {A : Type 0} (R : A → A → Type 0) (p : A → Bool) (xs : List A) → EveryPair R xs → EveryPair R (filter p xs)
+pair-filter R p [] h = tt
+pair-filter {A} R p (x ∷ xs) h = go (p x) (pair-filter R p xs h.1)
+  where
+    every : (ys : List A) → Every (R x) ys → Every (R x) (filter p ys)
+    every [] e = tt
+    every (y ∷ ys) e = one (p y) (every ys e.1)
+      where
+        one : (b : Bool) → Every (R x) (filter p ys) → Every (R x) (cond b (y ∷ filter p ys) (filter p ys))
+        one true i = (e.0, i)
+        one false i = i
+
+    go : (b : Bool) → EveryPair R (filter p xs) → EveryPair R (cond b (x ∷ filter p xs) (filter p xs))
+    go true i = (every xs h.0, i)
+    go false i = i
+
+module _ (rule : Arithmetic) where
+  pub factor-left : (f g : Sum) → IsFactor rule (f ++ g) → IsFactor rule f
+  factor-left f g h = record { rises = pair-left _ f g h.rises; keepable = Every-left _ f g h.keepable; near = Every-left _ f g h.near }
+
+  pub factor-right : (f g : Sum) → IsFactor rule (f ++ g) → IsFactor rule g
+  factor-right f g h = record { rises = pair-right _ f g h.rises; keepable = Every-right _ f g h.keepable; near = Every-right _ f g h.near }
+
+  pub factor-filter : (p : Term → Bool) (f : Sum) → IsFactor rule f → IsFactor rule (filter p f)
+  factor-filter p f h = record { rises = pair-filter _ p f h.rises; keepable = Every-filter _ p f h.keepable; near = Every-filter _ p f h.near }
+
+  pub reduced-nil : (n : ℕ) → IsReduced rule n [] []
+  reduced-nil n = record { series = record { rises = tt; nonzero = tt; low = tt }; keeps = tt; keepable = tt; same = λ k. refl }
+
+  -- ---- a row
+
+  pub row-step : (t : Term) (out b : List (CodeKey × ℤ)) (i : ℕ) (z : CodeKey) (c : ℤ) → i < length b → key_of z ≡ key_mul t.0 (key_of (at b i).0) → c ≡ kept rule (t.1 *ℤ (at b i).1) → c ≢ pos 0
+      → sum_of (out ++ (z, c) ∷ []) ++ row_of rule t (sum_of (drop (i + 1) b)) ≡ sum_of out ++ row_of rule t (sum_of (drop i b))
+  row-step t out b i z c h e f n = sum_of-push out (z, c) _ ∙ ap (λ r. sum_of out ++ r) (sym (ap (row_of rule t) (sum_of-drop b i h) ∙ ap2 ∙ go (int_eq c (pos 0)) refl))
+    where
+      rest : Sum
+      rest = row_of rule t (sum_of (drop (i + 1) b))
+
+      ap2 : add_term rule (key_mul t.0 (key_of (at b i).0), kept rule (t.1 *ℤ (at b i).1)) (row_of rule t (sum_of (drop (i + 1) b))) ≡ cond (int_eq c (pos 0)) (row_of rule t (sum_of (drop (i + 1) b))) ((key_of z, c) ∷ row_of rule t (sum_of (drop (i + 1) b)))
+      ap2 = rw (f, e) refl
+
+      go : (d : Bool) → int_eq c (pos 0) ≡ d → cond d (row_of rule t (sum_of (drop (i + 1) b))) ((key_of z, c) ∷ row_of rule t (sum_of (drop (i + 1) b))) ≡ (key_of z, c) ∷ row_of rule t (sum_of (drop (i + 1) b))
+      go true q = absurd (n (grind (arith, ints)))
+      go false q = refl
+
+  pub row-gone : (t : Term) (out b : List (CodeKey × ℤ)) (i : ℕ) (c : ℤ) → i < length b → c ≡ kept rule (t.1 *ℤ (at b i).1) → c ≡ pos 0
+      → sum_of out ++ row_of rule t (sum_of (drop (i + 1) b)) ≡ sum_of out ++ row_of rule t (sum_of (drop i b))
+  row-gone t out b i c h f z = ap (λ r. sum_of out ++ r) (sym (ap (row_of rule t) (sum_of-drop b i h) ∙ rw (← f, z) refl))
+
+  pub row-done : (t : Term) (out b : List (CodeKey × ℤ)) (i : ℕ) → length b ≤ i → sum_of out ++ row_of rule t (sum_of (drop i b)) ≡ row_of rule t (sum_of b) → sum_of out ≡ row_of rule t (sum_of b)
+  row-done t out b i h e = sym (append-nil (sum_of out)) ∙ ap (λ r. sum_of out ++ row_of rule t (sum_of r)) (sym (drop_all i b h)) ∙ e
+
+-- ---- all pairs
+
+pub alone : (a : List (CodeKey × ℤ)) → 1 ≤ length a → length a < 2 → sum_of a ≡ term_of (at a 0) ∷ []
+alone [] h k = absurd (omega arith)
+alone (t ∷ []) h k = refl
+alone (t ∷ u ∷ a) h k = absurd (omega arith)
+
+pub pairs-one : (t : Term) (g : Sum) → pairs (t ∷ []) g ≡ row_sum t g
+pairs-one t g = append-nil (row_sum t g)
+
+pub sum_of-where : (p : Term → Bool) (a : List (CodeKey × ℤ)) → sum_of (filter (λ t. p (term_of t)) a) ≡ filter p (sum_of a)
+sum_of-where p [] = refl
+sum_of-where p (t ∷ a) = go (p (term_of t)) (sum_of-where p a)
+  where
+    go : (b : Bool) → sum_of (filter (λ t. p (term_of t)) a) ≡ filter p (sum_of a) → sum_of (cond b (t ∷ filter (λ t. p (term_of t)) a) (filter (λ t. p (term_of t)) a)) ≡ cond b (term_of t ∷ filter p (sum_of a)) (filter p (sum_of a))
+    go true e = ap (λ r. term_of t ∷ r) e
+    go false e = e
+
+-- the degrees of a level and of what fits to it
+pub pairs-fit : (m n d : ℕ) (f g : Sum) → d ≤ n → n ≤ m → PairsFit m (level d f) (cut (n - d) g)
+pairs-fit m n d f g h k =
+    Every-weaker (λ (t : Term). degree t.0 ≡ d) _ (level d f)
+    (λ t e. Every-weaker (λ (u : Term). degree u.0 ≤ n - d) (λ u. degree t.0 + degree u.0 ≤ m) (cut (n - d) g) (λ u l. omega (arith, e, l)) (low-cut (n - d) g)) (level-degree d f)

@@ -1,0 +1,174 @@
+-- Powers add up; their keys, and those of reduced lists.
+use Rattle.std.proofs.Common.{◌≡◌, ◌≢◌, ℕ, zero, suc, ◌+◌, ◌<◌, ◌≤◌, refl, sym, subst, ap, ◌∙◌, Bool, true, false, cond, not, [], ◌∷◌, ◌++◌, arith, zero-add, add-one}
+use Rattle.std.specs.Prelude.{ℤ, pos, ◌+ℤ◌, ◌*ℤ◌, nat_le, nat_abs, IsTrue}
+use Rattle.std.proofs.lemmas.Int.{ints}
+use Rattle.std.proofs.lemmas.List.{append-nil}
+use Rattle.std.proofs.lemmas.Bool.{le-leb}
+use lib.IntN.{+ℤ_idl}
+use Rattle.scattering.specs.Collections.{Every, EveryPair}
+use Rattle.scattering.specs.Series.{Key, Term, Sum, Same, degree, key_eq, key_mul, key_before, coef, cut, mul, pow, powers_to, one, unit, rest}
+use Rattle.scattering.proofs.Keys.{key_eq-same, key_eq-refl}
+use Rattle.scattering.proofs.Pairing.{pairing-same}
+use Rattle.trunc_series.specs.declared.arithmetic.Arithmetic.{Arithmetic}
+use Rattle.trunc_series.specs.Arithmetic.{kept, IsKeepable}
+use Rattle.trunc_series.specs.Shown.{IsNear}
+use Rattle.trunc_series.specs.Reduced.{IsReduced, IsFactor, IsNearKey, IsTame}
+use Rattle.trunc_series.proofs.Kept.{kept-zero, kept-one, keepable-one}
+use Rattle.trunc_series.proofs.Coefficients.{Every-weaker, Every-append, skip-zero, add-zero, coef-none, apart}
+use Rattle.trunc_series.proofs.Bisection.{apart-back}
+use Rattle.trunc_series.proofs.Merging.{whole}
+use Rattle.trunc_series.proofs.Rows.{row_sum, Every-filter, reduced-same, mul-keepable}
+use Rattle.trunc_series.proofs.Products.{low-mul}
+use Rattle.trunc_series.proofs.Congruence.{weight, mul-weight, mul-comm, product-reduced}
+use Rattle.trunc_series.proofs.Associate.{degree-mul, mul-assoc}
+
+-- ---- factors with the same coefficients
+
+row-above : (n : ℕ) (t : Term) (g : Sum) → n < degree t.0 → cut n (row_sum t g) ≡ []
+row-above n t [] h = refl
+row-above n t (u ∷ g) h =
+    let e : nat_le (degree (key_mul t.0 u.0)) n ≡ false = high (degree (key_mul t.0 u.0)) (omega (arith, degree-mul t.0 u.0, h)) in
+    rw e (row-above n t g h)
+  where
+    high : (d : ℕ) → n < d → nat_le d n ≡ false
+    high d l = grind arith
+
+pub mul-same_left : (n : ℕ) (f f' g : Sum) → Same f f' → Same (mul n f g) (mul n f' g)
+mul-same_left n f f' g s k =
+    mul-weight n f g k ∙ pairing-same (weight n g k) n f f' (λ x l. s x) (λ x l. ap (λ r. coef r k) (row-above n (x, pos 1) g (omega (arith, l)))) ∙ sym (mul-weight n f' g k)
+
+pub mul-same_right : (n : ℕ) (f g g' : Sum) → Same g g' → Same (mul n f g) (mul n f g')
+mul-same_right n f g g' s k = mul-comm n f g k ∙ mul-same_left n g g' f s k ∙ mul-comm n g' f k
+
+-- ---- 1
+
+unit-mul : (k : Key) → key_mul unit k ≡ k
+unit-mul k = λ i. record {
+  powers = record { t1 = zero-add k.powers.t1 i; t2 = zero-add k.powers.t2 i; t3 = zero-add k.powers.t3 i; t4 = zero-add k.powers.t4 i; t5 = zero-add k.powers.t5 i; t6 = zero-add k.powers.t6 i; t7 = zero-add k.powers.t7 i; t8 = zero-add k.powers.t8 i };
+  exp = record { a = +ℤ_idl k.exp.a i; b = +ℤ_idl k.exp.b i };
+}
+
+one-mul : (c : ℤ) → pos 1 *ℤ c ≡ c
+one-mul c = omega (arith, ints)
+
+unit-row : (g : Sum) → row_sum (unit, pos 1) g ≡ g
+unit-row [] = refl
+unit-row (u ∷ g) = let e = unit-mul u.0 in let c = one-mul u.1 in let r = unit-row g in λ i. (e i, c i) ∷ r i
+
+cut-low : (n : ℕ) (g : Sum) → Every (λ t. degree t.0 ≤ n) g → cut n g ≡ g
+cut-low n [] h = refl
+cut-low n (t ∷ g) h = rw (le-leb (degree t.0) n h.0) (ap (λ r. t ∷ r) (cut-low n g h.1))
+
+mul-one : (n : ℕ) (g : Sum) → Every (λ t. degree t.0 ≤ n) g → mul n one g ≡ g
+mul-one n g h = append-nil (cut n (row_sum (unit, pos 1) g)) ∙ ap (cut n) (unit-row g) ∙ cut-low n g h
+
+-- ---- powers
+
+pub pow-low : (n : ℕ) (f : Sum) (i : ℕ) → Every (λ t. degree t.0 ≤ n) (pow n f i)
+pow-low n f zero = (omega arith, tt)
+pow-low n f (suc i) = low-mul n f (pow n f i)
+
+pub pow-add : (n : ℕ) (f : Sum) (i j : ℕ) → Same (mul n (pow n f i) (pow n f j)) (pow n f (i + j))
+pow-add n f zero j k = ap (λ r. coef r k) (mul-one n (pow n f j) (pow-low n f j)) ∙ ap (λ (l : ℕ). coef (pow n f l) k) (sym (zero-add j))
+pow-add n f (suc i) j k =
+    let e : suc i + j ≡ suc (i + j) = omega arith in
+    mul-assoc n f (pow n f i) (pow n f j) k ∙ mul-same_right n f (mul n (pow n f i) (pow n f j)) (pow n f (i + j)) (pow-add n f i j) k
+    ∙ ap (λ (l : ℕ). coef (pow n f l) k) (sym e)
+
+-- ---- keys
+
+pub mul-every : (P : Key → Type 0) → ((k l : Key) → P k → P l → P (key_mul k l)) → (n : ℕ) (f g : Sum) → Every (λ t. P t.0) f → Every (λ t. P t.0) g → Every (λ t. P t.0) (mul n f g)
+mul-every P c n [] g h k = tt
+mul-every P c n (t ∷ f) g h k = Every-append (λ u. P u.0) (cut n (row_sum t g)) (mul n f g) (Every-filter (λ u. P u.0) (λ u. nat_le (degree u.0) n) (row_sum t g) (row g k)) (mul-every P c n f g h.1 k)
+  where
+    row : (g : Sum) → Every (λ u. P u.0) g → Every (λ u. P u.0) (row_sum t g)
+    row [] e = tt
+    row (u ∷ g) e = (c t.0 u.0 h.0 e.0, row g e.1)
+
+pub tame-mul : (k l : Key) → IsTame k → IsTame l → IsTame (key_mul k l)
+tame-mul k l h i =
+    let p = h.0 in let q = h.1 in let r = i.0 in let s = i.1 in
+    let d = degree-mul k l in
+    let a = abs-add k.exp.a l.exp.a in
+    let b = abs-add k.exp.b l.exp.b in
+    (rw d (omega (arith, a)), rw d (omega (arith, b)))
+  where
+    abs-add : (x y : ℤ) → nat_abs (x +ℤ y) ≤ nat_abs x + nat_abs y
+    abs-add x y = omega (arith, ints)
+
+pub pow-tame : (n : ℕ) (f : Sum) (i : ℕ) → Every (λ t. IsTame t.0) f → Every (λ t. IsTame t.0) (pow n f i)
+pow-tame n f zero h = ((omega arith, omega arith), tt)
+pow-tame n f (suc i) h = mul-every IsTame tame-mul n f (pow n f i) h (pow-tame n f i h)
+
+pub rest-tame : (f : Sum) → IsNear f → Every (λ t. 1 ≤ degree t.0) (rest f) → Every (λ t. IsTame t.0) f
+rest-tame [] h r = tt
+rest-tame (t ∷ f) h r = go (key_eq t.0 unit) refl r (rest-tame f h.1)
+  where
+    go : (b : Bool) → key_eq t.0 unit ≡ b → Every (λ t. 1 ≤ degree t.0) (cond (not b) (t ∷ rest f) (rest f)) → (Every (λ t. 1 ≤ degree t.0) (rest f) → Every (λ t. IsTame t.0) f) → Every (λ t. IsTame t.0) (t ∷ f)
+    go true e s i = (subst IsTame (sym (key_eq-same t.0 unit e)) (omega arith, omega arith), i s)
+    go false e s i = let d = s.0 in let p = h.0.0 in let q = h.0.1 in ((omega (arith, d), omega (arith, d)), i s.1)
+
+key-from : (P : Key → Type 0) (f : Sum) (k : Key) → Every (λ t. P t.0) f → coef f k ≢ pos 0 → P k
+key-from P [] k h n = absurd (n refl)
+key-from P (t ∷ f) k h n = go (key_eq t.0 k) refl (key-from P f k h.1)
+  where
+    go : (b : Bool) → key_eq t.0 k ≡ b → (coef f k ≢ pos 0 → P k) → P k
+    go true e i = subst P (key_eq-same t.0 k e) h.0
+    go false e i = i (λ z. n (rw (e, z) refl))
+
+each-own : (f : Sum) → EveryPair (λ t u. IsTrue (key_before t.0 u.0)) f → Every (λ t. coef f t.0 ≡ t.1) f
+each-own [] r = tt
+each-own (t ∷ f) r =
+    (rw (key_eq-refl t.0, coef-none f t.0 (Every-weaker (λ (u : Term). IsTrue (key_before t.0 u.0)) (λ u. key_eq u.0 t.0 ≡ false) f (λ u b. apart t.0 u.0 b) r.0)) (add-zero t.1), go f r.0 (each-own f r.1))
+  where
+    go : (g : Sum) → Every (λ u. IsTrue (key_before t.0 u.0)) g → Every (λ u. coef f u.0 ≡ u.1) g → Every (λ u. coef (t ∷ f) u.0 ≡ u.1) g
+    go [] b e = tt
+    go (u ∷ g) b e = (rw (apart-back t.0 u.0 b.0) (skip-zero (coef f u.0) ∙ e.0), go g b.1 e.1)
+
+-- a reduced list has only keys of the sum
+pub reduced-keys : (rule : Arithmetic) (P : Key → Type 0) (n : ℕ) (r f : Sum) → IsReduced rule n r f → Every (λ t. P t.0) f → Every (λ t. P t.0) r
+reduced-keys rule P n r f h e = go r (each-own r h.series.rises) h.series.nonzero h.keeps
+  where
+    go : (g : Sum) → Every (λ t. coef r t.0 ≡ t.1) g → Every (λ t. t.1 ≢ pos 0) g → Every (λ t. (kept rule t.1 ≡ t.1) × IsKeepable rule t.1) g → Every (λ t. P t.0) g
+    go [] o z k = tt
+    go (t ∷ g) o z k = (key-from P f t.0 e (λ q. z.0 (sym k.0.0 ∙ ap (kept rule) (sym o.0) ∙ h.same t.0 ∙ ap (kept rule) q ∙ kept-zero rule)), go g o.1 z.1 k.1)
+
+pub reduced-factor : (rule : Arithmetic) (n : ℕ) (r f : Sum) → n ≤ 24 → IsReduced rule n r f → Every (λ t. IsTame t.0) f → IsFactor rule r
+reduced-factor rule n r f o h e = record {
+  rises = h.series.rises;
+  keepable = whole rule r h.keeps;
+  near = near r (reduced-keys rule IsTame n r f h e) h.series.low;
+}
+  where
+    near : (g : Sum) → Every (λ t. IsTame t.0) g → Every (λ t. degree t.0 ≤ n) g → Every (λ t. IsNearKey t.0) g
+    near [] t l = tt
+    near (u ∷ g) t l = let p = t.0.0 in let q = t.0.1 in let d = l.0 in ((omega (arith, p, d), omega (arith, q, d)), near g t.1 l.1)
+
+-- ---- the steps of a power
+
+module _ (rule : Arithmetic) (n : ℕ) (f : Sum) (hf : Every (λ t. IsKeepable rule t.1) f) where
+  pub pow-keepable : (i : ℕ) → Every (λ t. IsKeepable rule t.1) (pow n f i)
+  pow-keepable zero = (keepable-one rule, tt)
+  pow-keepable (suc i) = mul-keepable rule n f (pow n f i) hf (pow-keepable i)
+
+  pub pow-square : (i : ℕ) (r s : Sum) → IsReduced rule n r (pow n f i) → IsReduced rule n s (mul n r r) → IsReduced rule n s (pow n f (i + i))
+  pow-square i r s h k = reduced-same rule n s _ (pow n f (i + i)) (product-reduced rule n s r r (pow n f i) (pow n f i) h h k) (pow-keepable (i + i)) (pow-add n f i i)
+
+  pub pow-more : (i : ℕ) (a r s : Sum) → IsReduced rule n a f → IsReduced rule n r (pow n f i) → IsReduced rule n s (mul n a r) → IsReduced rule n s (pow n f (i + 1))
+  pow-more i a r s h k l = rw add-one (product-reduced rule n s a r f (pow n f i) h k l)
+
+  pub sum-more : (i : ℕ) (r s p : Sum) → IsReduced rule n r (powers_to n f i) → IsReduced rule n s (pow n f (i + 1))
+      → ((m : ℕ) (u v : Sum) → IsReduced rule m r u → IsReduced rule m s v → IsReduced rule m p (u ++ v)) → IsReduced rule n p (powers_to n f (i + 1))
+  sum-more i r s p h k m = rw add-one (m n (powers_to n f i) (pow n f (suc i)) h (rw add-one at k))
+
+pub powers-tame : (n : ℕ) (f : Sum) (i : ℕ) → Every (λ t. IsTame t.0) f → Every (λ t. IsTame t.0) (powers_to n f i)
+powers-tame n f zero h = ((omega arith, omega arith), tt)
+powers-tame n f (suc i) h = Every-append (λ t. IsTame t.0) (powers_to n f i) (pow n f (suc i)) (powers-tame n f i h) (pow-tame n f (suc i) h)
+
+pub one-reduced : (rule : Arithmetic) (n : ℕ) → IsReduced rule n one one
+one-reduced rule n = record {
+  series = record { rises = (tt, tt); nonzero = (λ e. cc, tt); low = (omega arith, tt) };
+  keeps = ((kept-one rule, keepable-one rule), tt);
+  keepable = (keepable-one rule, tt);
+  same = λ k. refl;
+}
