@@ -1,8 +1,9 @@
 // Reading a text.
-ghost use Rattle.std.specs.Prelude.{◌≡◌, ℕ, ◌≤◌, ◌^◌, [], ◌∷◌, length, IfOk};
+ghost use Rattle.std.specs.Prelude.{◌≡◌, List, ℕ, ◌≤◌, ◌^◌, [], ◌∷◌, length, IfOk};
 ghost use Rattle.scatter_text.specs.Grammar.{IsTextOf, IsTextFault, file_text, file_rows, IsBadLine, IsFaultAfter};
 ghost use Rattle.scatter_text.specs.Stages.{rows_of, Follows, AreRead};
 ghost use Rattle.scatter_text.specs.declared.fault.TextKind.{TextKind};
+ghost use Rattle.scatter_text.specs.declared.file.TextFile.{TextFile};
 
 use crate::fault::{TextFault, TextKind};
 use crate::file::TextFile;
@@ -16,7 +17,7 @@ use std::alloc::Global;
 pub fn read_text(alloc: Global, bytes: &[u8]) -> Result<TextFile, TextFault>
     requires { length bytes.now ≤ 2 ^ 20 }
     ensures file { IfOk result (IsTextOf bytes.now) }
-    // ensures spelling { IfOk result (λ file. bytes.now ≡ file_text file) }
+    ensures spelling { IfOk result (λ file. bytes.now ≡ file_text file) }
     ensures fault { (line : ℕ) (kind : TextKind) → result ≡ Err (TextFault.Bad line kind) → IsTextFault bytes.now line kind }
 {
     let mut stage = Stage::Start;
@@ -32,6 +33,11 @@ pub fn read_text(alloc: Global, bytes: &[u8]) -> Result<TextFile, TextFault>
     }
     finish(stage, rest, number)
 }
+
+/// No text has both a file and a fault.
+pub fn one_outcome()
+    ensures { (bytes : List ℕ) (file : TextFile) (line : ℕ) (kind : TextKind) → IsTextOf bytes file → IsTextFault bytes line kind → ⊥ }
+{}
 
 /// A line's fault as that of a text.
 fn at(fault: LineFault, line: u32) -> TextFault
