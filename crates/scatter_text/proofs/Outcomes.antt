@@ -1,5 +1,5 @@
 -- A text is the one text of its file, and has one outcome.
-use Rattle.std.proofs.Common.{inl, inr, ◌≡◌, ℕ, List, [], ◌∷◌, ◌++◌, drop, get_or, reverse, flat_map, refl, sym, ◌∙◌, ap, subst}
+use Rattle.std.proofs.Common.{suc, length, ◌+◌, inl, inr, ◌≡◌, ℕ, List, [], ◌∷◌, ◌++◌, drop, get_or, reverse, flat_map, refl, sym, ◌∙◌, ap, subst}
 use Rattle.std.specs.List.{join_with_byte, AllByRecursion}
 use Rattle.std.proofs.lemmas.List.{append_assoc, append-nil, reverse-append}
 use Rattle.std.proofs.lemmas.List.Splits.{join_with_byte-slice_split}
@@ -92,3 +92,50 @@ apart before (line ∷ lines) (g ∷ gs) rest rows rows' kind (r, good_r, more) 
 
 pub text_has_no_fault : (bytes : List ℕ) (file : TextFile) (line : ℕ) (kind : TextKind) → IsTextOf bytes file → IsTextFault bytes line kind → ⊥
 text_has_no_fault bytes file line kind h fault = apart [] h.lines fault.good fault.rest (file_rows file) fault.rows kind h.are_good refl fault.are_good (sym h.cut ∙ fault.cut) fault.fault
+
+-- ---- one fault
+
+one_failure : (P : TextKind → Type 0) (kinds : List TextKind) (k j : TextKind) → IsFirstFailure P kinds k → IsFirstFailure P kinds j → k ≡ j
+one_failure P [] k j f g = absurd f
+one_failure P (kind ∷ more) k j (inl (not, is)) (inl (not', is')) = is ∙ sym is'
+one_failure P (kind ∷ more) k j (inl (not, is)) (inr (passes, g)) = absurd (not passes)
+one_failure P (kind ∷ more) k j (inr (passes, f)) (inl (not, is)) = absurd (not passes)
+one_failure P (kind ∷ more) k j (inr (passes, f)) (inr (passes', g)) = one_failure P more k j f g
+
+one_kind : (rows : List Row) (rest : List (List ℕ)) (k j : TextKind) → IsFaultAfter rows rest k → IsFaultAfter rows rest j → k ≡ j
+one_kind rows [] k j f g = absurd f
+one_kind rows (last ∷ []) k j (inl (some, is)) (inl (some', is')) = is ∙ sym is'
+one_kind rows (last ∷ []) k j (inl (some, is)) (inr (none, going, is')) = absurd (some none)
+one_kind rows (last ∷ []) k j (inr (none, going, is)) (inl (some, is')) = absurd (some none)
+one_kind rows (last ∷ []) k j (inr (none, going, is)) (inr (none', going', is')) = is ∙ sym is'
+one_kind rows (line ∷ next ∷ more) k j f g = one_failure (Passes rows line) tests k j f g
+
+-- a line is not both the first bad one and good with more to come
+not_both : (rows rows' : List Row) (line : List ℕ) (r : Row) (lines rest : List (List ℕ)) (k j : TextKind) → IsGoodLine rows line r → IsFaultAfter rows (line ∷ (lines ++ rest)) k → IsFaultAfter rows' rest j → ⊥
+not_both rows rows' line r [] [] k j good f g = g
+not_both rows rows' line r [] (next ∷ more) k j good f g = good_not_bad rows line r k good f
+not_both rows rows' line r (next ∷ more) rest k j good f g = good_not_bad rows line r k good f
+
+one_place : (before : List Row) (good good' rest rest' : List (List ℕ)) (rows rows' : List Row) (k j : TextKind) → AreGood before good rows → AreGood before good' rows' → good ++ rest ≡ good' ++ rest' → IsFaultAfter rows rest k → IsFaultAfter rows' rest' j → (length good ≡ length good') × (k ≡ j)
+one_place before [] [] rest rest' rows rows' k j g h e f f' =
+    let P : List Row → List (List ℕ) → Type 0 = λ rows rest. IsFaultAfter rows rest j in
+    (refl, one_kind rows rest k j f (subst (λ z. z) (λ i. P ((h ∙ sym g) i) (sym e i)) f'))
+one_place before [] (line ∷ lines) rest rest' rows rows' k j g (r, good, more) e f f' =
+    let here : IsFaultAfter before (line ∷ (lines ++ rest')) k = let P : List Row → List (List ℕ) → Type 0 = λ rows rest. IsFaultAfter rows rest k in subst (λ z. z) (λ i. P (g i) (e i)) f in
+    absurd (not_both before rows' line r lines rest' k j good here f')
+one_place before (line ∷ lines) [] rest rest' rows rows' k j (r, good, more) h e f f' =
+    let here : IsFaultAfter before (line ∷ (lines ++ rest)) j = let P : List Row → List (List ℕ) → Type 0 = λ rows rest. IsFaultAfter rows rest j in subst (λ z. z) (λ i. P (h i) (sym e i)) f' in
+    absurd (not_both before rows line r lines rest j k good here f)
+one_place before (line ∷ lines) (g ∷ gs) rest rest' rows rows' k j (r, good_r, more) (s, good_s, others) e f f' =
+    let head : line ≡ g = ap (λ (xs : List (List ℕ)). get_or xs 0 []) e in
+    let tail : lines ++ rest ≡ gs ++ rest' = ap (λ (xs : List (List ℕ)). drop 1 xs) e in
+    let also : IsGoodLine before line s = let P : List ℕ → Type 0 = λ line. IsGoodLine before line s in subst P (sym head) good_s in
+    let same : s ≡ r = good_row before line s r also good_r in
+    let P : Row → Type 0 = λ r. AreGood (r ∷ before) gs rows' in
+    let more_is = one_place (r ∷ before) lines gs rest rest' rows rows' k j more (subst P same others) tail f f' in
+    (ap suc more_is.0, more_is.1)
+
+pub fault_is_one : (bytes : List ℕ) (l m : ℕ) (k j : TextKind) → IsTextFault bytes l k → IsTextFault bytes m j → (l ≡ m) × (k ≡ j)
+fault_is_one bytes l m k j f g =
+    let one = one_place [] f.good g.good f.rest g.rest f.rows g.rows k j f.are_good g.are_good (sym f.cut ∙ g.cut) f.fault g.fault in
+    (f.number ∙ ap (λ n. n + 1) one.0 ∙ sym g.number, one.1)

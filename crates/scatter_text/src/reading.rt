@@ -1,4 +1,4 @@
-// Reading a text.
+// Reading a text line by line, by what the rows before a line allow.
 ghost use Rattle.std.specs.Prelude.{◌≡◌, List, ℕ, ◌≤◌, ◌^◌, [], ◌∷◌, length, IfOk};
 ghost use Rattle.scatter_text.specs.Grammar.{IsTextOf, IsTextFault, file_text, file_rows, IsBadLine, IsFaultAfter};
 ghost use Rattle.scatter_text.specs.Stages.{rows_of, Follows, AreRead};
@@ -13,7 +13,8 @@ use crate::rows::Rows;
 use crate::stage::Stage;
 use std::alloc::Global;
 
-/// Reads a text of at most 2^20 bytes.
+/// The file that a text says, or `Bad` with its first fault: the line, counted from 1, and the kind. `Memory` may come on any text.
+/// A line takes time in the number of terms that the same line of the diagram has already.
 pub fn read_text(alloc: Global, bytes: &[u8]) -> Result<TextFile, TextFault>
     requires { length bytes.now ≤ 2 ^ 20 }
     ensures file { IfOk result (IsTextOf bytes.now) }
@@ -34,9 +35,10 @@ pub fn read_text(alloc: Global, bytes: &[u8]) -> Result<TextFile, TextFault>
     finish(stage, rest, number)
 }
 
-/// No text has both a file and a fault.
+/// No text has both a file and a fault, nor two faults.
 pub fn one_outcome()
-    ensures { (bytes : List ℕ) (file : TextFile) (line : ℕ) (kind : TextKind) → IsTextOf bytes file → IsTextFault bytes line kind → ⊥ }
+    ensures file_or_fault { (bytes : List ℕ) (file : TextFile) (line : ℕ) (kind : TextKind) → IsTextOf bytes file → IsTextFault bytes line kind → ⊥ }
+    ensures one_fault { (bytes : List ℕ) (l m : ℕ) (k j : TextKind) → IsTextFault bytes l k → IsTextFault bytes m j → (l ≡ m) × (k ≡ j) }
 {}
 
 /// A line's fault as that of a text.
