@@ -1,5 +1,5 @@
 -- Laws of binomial coefficients.
-use Rattle.std.proofs.Common.{◌≡◌, ℕ, zero, suc, ◌≤◌, ◌<◌, ◌+◌, ◌*◌, ◌/◌, ◌^◌, refl, arith, sym, ◌∙◌, ap, subst, lit<}
+use Rattle.std.proofs.Common.{◌≡◌, ℕ, zero, suc, ◌≤◌, ◌<◌, ◌+◌, ◌*◌, ◌/◌, ◌^◌, refl, arith, sym, ◌∙◌, ap, lit<}
 use Rattle.std.proofs.Math.Nat.{mul-div_cancel_left, mul-le-mul_right, pow-le-pow_right}
 use Rattle.scatter_text.specs.Limits.{binomial}
 

@@ -1,15 +1,14 @@
 -- The spelling of coordinates.
-use Rattle.std.proofs.Common.{Option, Some, None, MatchOption, ◌⊎◌, inl, inr, ◌≡◌, ◌≢◌, ◌≤ℤ◌, ℕ, zero, suc, ◌≤◌, ◌<◌, ◌+◌, ◌==◌, Bool, true, false, cond, List, [], ◌∷◌, ◌++◌, length, drop, get_or, refl, arith, sym, ◌∙◌, ap, subst, lit<, ℤ, pos, negsuc, nat_abs}
+use Rattle.std.proofs.Common.{Option, Some, None, MatchOption, inl, ◌≡◌, ◌≢◌, ◌≤ℤ◌, ℕ, suc, ◌==◌, Bool, true, false, List, [], ◌∷◌, ◌++◌, length, drop, get_or, refl, arith, sym, ◌∙◌, ap, lit<, ℤ, pos, negsuc, nat_abs}
 use Rattle.std.specs.Fmt.{signed_decimal}
-use Rattle.std.specs.List.{slice_split, join_with_byte, AllByRecursion, All}
+use Rattle.std.specs.List.{slice_split, join_with_byte, All}
 use Rattle.std.proofs.lemmas.List.Splits.{slice_split_none, slice_split_at, join_with_byte-slice_split, length-slice_split}
 use Rattle.std.proofs.lemmas.List.Elements.{All-from_recursion}
 use Rattle.std.proofs.lemmas.Bool.Decides.{nat_tests}
 use Rattle.std.proofs.lemmas.Int.{ints}
 use Rattle.scatter_text.specs.declared.file.Coordinate.{Coordinate}
-use Rattle.scatter_text.specs.Values.{AreCoprime, IsCoordinate}
 use Rattle.scatter_text.specs.Grammar.{IsShort, IsNumberText, IsShortCoordinate, IsCoordinateText, coordinate_text}
-use Rattle.scatter_text.specs.Reading.{IsProper, IsFractionText}
+use Rattle.scatter_text.specs.Reading.{IsFractionText}
 use Rattle.scatter_text.proofs.Divisors.{dvd_one}
 use Rattle.scatter_text.proofs.Numbers.{IsForeign, number_avoids}
 

@@ -1,8 +1,8 @@
 -- The greatest common divisor of the specifications is one.
-use Rattle.std.proofs.Common.{◌≡◌, ℕ, zero, suc, ◌≤◌, ◌<◌, ◌%◌, ◌==◌, Bool, true, false, refl, arith, subst, ap, sym}
+use Rattle.std.proofs.Common.{◌≡◌, ℕ, zero, suc, ◌≤◌, ◌<◌, ◌%◌, ◌==◌, Bool, true, false, refl, arith, subst}
 use Rattle.std.proofs.Math.Nat.{mod-lt, one-dvd, eq-zero_of_zero-dvd}
 use Rattle.std.specs.Int.{◌∣◌, IsGcd}
-use Rattle.std.proofs.lemmas.Nat.Gcd.{IsGcd-from_zero, IsGcd-from_mod, dvd_antisymm, dvd_trans}
+use Rattle.std.proofs.lemmas.Nat.Gcd.{IsGcd-from_zero, IsGcd-from_mod, dvd_antisymm}
 use Rattle.scatter_text.specs.Limits.{gcd, gcd_within}
 use Rattle.scatter_text.specs.Values.{AreCoprime}
 

@@ -9,3 +9,4 @@ pub mod StageRows
 pub mod Texts
 pub mod RowTexts
 pub mod Validity
+pub mod Outcomes

@@ -1,13 +1,13 @@
 -- A line begins with one keyword, so its first failing test is one.
-use Rattle.std.proofs.Common.{◌⊎◌, inl, inr, ◌≡◌, ◌≢◌, ℕ, ◌≤◌, List, [], ◌∷◌, length, get_or, refl, arith, sym, ◌∙◌, ap, subst, Option, Some, None, unwrap_or, All, Contains, slice_get, ℤ}
+use Rattle.std.proofs.Common.{inl, inr, ◌≡◌, ◌≢◌, ℕ, List, [], get_or, refl, arith, sym, ◌∙◌, ap, subst, Option, unwrap_or, All, Contains, slice_get, ℤ}
 use Rattle.scatter_text.specs.declared.fault.TextKind.{TextKind}
 use Rattle.scatter_text.specs.declared.fault.TextKind.TheVariants.{Unfinished, Byte, Shape, Word, Count, Number, Value, Missing}
 use Rattle.scatter_text.specs.declared.grammar.Keyword.{Keyword}
 use Rattle.scatter_text.specs.declared.grammar.Keyword.TheVariants as keyword
 use Rattle.scatter_text.specs.declared.grammar.Place.{Place}
 use Rattle.scatter_text.specs.declared.grammar.Row.{Row}
-use Rattle.scatter_text.specs.Grammar.{word_of, words_at, place_after, vars_of, BeginsWith, tokens_of, form, HasForm, AreSpelled, Passes, IsBadLine, keyword_of}
-use Rattle.scatter_text.specs.Reading.{BeginAt, Say, AreBadTokens, IsRowOf, IsUnvaluedLine}
+use Rattle.scatter_text.specs.Grammar.{word_of, words_at, place_after, vars_of, BeginsWith, tokens_of, form, HasForm, AreSpelled, Passes, IsBadLine}
+use Rattle.scatter_text.specs.Reading.{BeginAt, Say, AreBadTokens, IsUnvaluedLine}
 
 -- the second bytes of the words tell them apart
 same_second : (j k : Keyword) → get_or (word_of j) 1 0 ≡ get_or (word_of k) 1 0 → j ≡ k

@@ -1,14 +1,14 @@
 -- The spelling of numbers: digits and their value, and that each number has one spelling.
-use Rattle.std.proofs.Common.{◌==◌, false, ◌⊎◌, ◌↔◌, ◌≤ℤ◌, ◌≡◌, ◌≢◌, ℕ, zero, suc, ◌≤◌, ◌<◌, ◌+◌, ◌-◌, ◌*◌, ◌^◌, List, [], ◌∷◌, ◌++◌, length, get_or, take, drop, refl, arith, sym, ◌∙◌, ap, subst, lit<, ℤ, pos, negsuc, nat_abs, decimal}
+use Rattle.std.proofs.Common.{◌==◌, false, ◌⊎◌, ◌↔◌, ◌≤ℤ◌, ◌≡◌, ◌≢◌, ℕ, zero, suc, ◌≤◌, ◌<◌, ◌+◌, ◌-◌, ◌*◌, ◌^◌, List, [], ◌∷◌, length, get_or, take, drop, refl, arith, sym, ◌∙◌, ap, subst, lit<, ℤ, pos, negsuc, nat_abs, decimal}
 use Rattle.std.specs.Fmt.{signed_decimal}
 use Rattle.std.specs.Char.{digit_value}
 use Rattle.std.specs.List.{AllByRecursion}
 use lib.Signed.{mag}
-use Rattle.std.specs.Int.{IsInRange, ◌∣◌}
+use Rattle.std.specs.Int.{◌∣◌}
 use Rattle.scatter_text.specs.Values.{AreCoprime}
 use Rattle.std.specs.Str.Parse.{AllDigits, digits_value}
 use Rattle.std.proofs.Math.Nat.{pow-le-pow_right}
-use Rattle.std.proofs.lemmas.Fmt.{decimal_is_IsNumeral, decimal_digit, decimal_nonempty, length-decimal-le, first_decimal, decimal-digits_value, decimal_injective, signed_decimal_injective}
+use Rattle.std.proofs.lemmas.Fmt.{decimal_is_IsNumeral, decimal_digit, decimal_nonempty, length-decimal-le, first_decimal, decimal-digits_value, signed_decimal_injective}
 use Rattle.std.proofs.lemmas.Str.Parse.{digit_from_value, IsNumeralModel, numerals_by_value, tells_digits, digit_at}
 use Rattle.std.proofs.lemmas.Int.Digits.{digits_value-lt, digits_value_more, digits_more}
 use Rattle.std.proofs.lemmas.Bool.Decides.{nat_tests}

@@ -1,5 +1,5 @@
 -- A line's tokens say one row.
-use Rattle.std.proofs.Common.{◌⊎◌, inl, inr, ◌≡◌, ◌≢◌, ◌≤ℤ◌, ℕ, zero, suc, ◌≤◌, ◌<◌, ◌+◌, ◌==◌, List, [], ◌∷◌, length, map, drop, get_or, refl, arith, sym, ◌∙◌, ap, subst, All, ℤ, pos, negsuc, nat_abs, codes}
+use Rattle.std.proofs.Common.{inl, inr, ◌≡◌, ◌≤ℤ◌, ℕ, ◌==◌, List, [], ◌∷◌, length, map, drop, get_or, refl, arith, sym, ◌∙◌, ap, subst, ℤ, pos, negsuc, nat_abs}
 use Rattle.std.specs.Fmt.{signed_decimal}
 use Rattle.std.specs.List.{slice_split, AllByRecursion}
 use Rattle.std.proofs.lemmas.Int.{ints}
@@ -10,8 +10,7 @@ use Rattle.scatter_text.specs.declared.file.Coordinate.{Coordinate}
 use Rattle.scatter_text.specs.declared.grammar.Keyword.TheVariants as keyword
 use Rattle.scatter_text.specs.declared.grammar.Row.{Row}
 use Rattle.scatter_text.specs.declared.grammar.Row.TheVariants as row
-use Rattle.scatter_text.specs.Values.{IsCoordinate}
-use Rattle.scatter_text.specs.Grammar.{IsShort, IsShortCoordinate, coordinate_text, keyword_of, row_tokens, IsShortRow, HasValues, Passes, Says, IsGoodLine, IsBadLine, tokens_of, form, HasForm}
+use Rattle.scatter_text.specs.Grammar.{IsShort, IsShortCoordinate, coordinate_text, keyword_of, row_tokens, IsShortRow, HasValues, Passes, Says, IsGoodLine, IsBadLine}
 use Rattle.scatter_text.specs.Reading.{IsUnvaluedLine}
 use Rattle.scatter_text.proofs.Numbers.{number_text_injective}
 use Rattle.scatter_text.proofs.Coordinates.{CoordinateCases, whole, fraction, coordinate_cases}

@@ -1,12 +1,11 @@
 -- The rows of a stage: what they decide, and one row more.
-use Rattle.std.proofs.Common.{Vec, Global, ◌⊎◌, inl, inr, ◌≡◌, ◌≢◌, ◌↔◌, ℕ, zero, suc, ◌<◌, List, [], ◌∷◌, ◌++◌, length, fold, refl, arith, sym, ◌∙◌, ap, subst, All, Contains, ℤ, pos, get_or}
+use Rattle.std.proofs.Common.{Vec, Global, ◌≡◌, ◌≢◌, ◌↔◌, ℕ, zero, suc, ◌<◌, List, [], ◌∷◌, ◌++◌, fold, refl, arith, sym, ◌∙◌, ap, All, Contains, ℤ, get_or}
 use Rattle.std.specs.List.{AllByRecursion}
 use Rattle.std.proofs.lemmas.Grind.{fold-append}
 use Rattle.std.proofs.lemmas.List.Elements.{All-from_recursion, recursion_from_All}
 use Rattle.scatter_text.specs.declared.file.Coordinate.{Coordinate}
 use Rattle.scatter_text.specs.declared.file.TermRow.{TermRow}
 use Rattle.scatter_text.specs.declared.file.LineRow.{LineRow}
-use Rattle.scatter_text.specs.declared.grammar.Keyword.{Keyword}
 use Rattle.scatter_text.specs.declared.grammar.Keyword.TheVariants as keyword
 use Rattle.scatter_text.specs.declared.grammar.Place.TheVariants as place
 use Rattle.scatter_text.specs.declared.grammar.Row.{Row}

@@ -1,5 +1,5 @@
 -- Lists of tokens, and the forms of lines.
-use Rattle.std.proofs.Common.{MatchOption, ◌≡◌, ◌≢◌, ◌↔◌, ℕ, zero, suc, ◌≤◌, ◌<◌, ◌+◌, ◌==◌, Bool, true, false, List, [], ◌∷◌, ◌++◌, length, map, replicate, get_or, take, drop, refl, arith, sym, ◌∙◌, ap, subst, Option, Some, None, All, slice_get, ℤ, nat_abs, codes}
+use Rattle.std.proofs.Common.{MatchOption, ◌≡◌, ◌↔◌, ℕ, zero, suc, ◌+◌, ◌==◌, Bool, true, List, [], ◌∷◌, ◌++◌, length, map, replicate, get_or, drop, refl, arith, sym, ◌∙◌, ap, subst, Option, Some, None, All, slice_get, ℤ, nat_abs, codes}
 use Rattle.std.proofs.lemmas.List.{length-map, get_or-map, nil_from_length, map_push}
 use Rattle.std.proofs.lemmas.List.Elements.{All-push, All-map, All-same, All-from_recursion, recursion_from_All}
 use Rattle.std.specs.List.{AllByRecursion}

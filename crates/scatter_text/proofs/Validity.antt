@@ -1,5 +1,5 @@
 -- The rules on values hold of the file that good lines say.
-use Rattle.std.proofs.Common.{◌≡◌, ◌≢◌, ◌≤ℤ◌, ℕ, zero, suc, ◌≤◌, ◌<◌, ◌+◌, List, [], ◌∷◌, length, map, fold, get_or, refl, arith, sym, ◌∙◌, ap, subst, All, AllPairs, ℤ, pos, nat_abs, codes, Option, Some, unwrap_or, slice_get}
+use Rattle.std.proofs.Common.{◌≡◌, ◌≤ℤ◌, ℕ, zero, suc, List, [], ◌∷◌, length, map, fold, arith, sym, ◌∙◌, ap, subst, AllPairs, ℤ, pos, nat_abs, Option, unwrap_or, slice_get}
 use Rattle.std.specs.Fmt.{signed_decimal}
 use Rattle.std.specs.List.{AllByRecursion}
 use Rattle.std.proofs.lemmas.List.{length-map}
@@ -11,8 +11,8 @@ use Rattle.scatter_text.specs.declared.grammar.Keyword.{Keyword}
 use Rattle.scatter_text.specs.declared.grammar.Keyword.TheVariants as keyword
 use Rattle.scatter_text.specs.declared.grammar.Row.{Row}
 use Rattle.scatter_text.specs.declared.grammar.Row.TheVariants as row
-use Rattle.scatter_text.specs.Values.{AreCoprime, IsTerm, AreAlike, AreTerms, IsLine, AreLines}
-use Rattle.scatter_text.specs.Grammar.{number, form, HasForm, BeginsWith, word_of, tokens_of, row_tokens, IsShortRow, IsShortCoordinate, HasValues, vars_of, terms_before, Passes, Says, IsGoodLine, AreGood, rows_onto}
+use Rattle.scatter_text.specs.Values.{IsTerm, AreAlike, IsLine, AreLines}
+use Rattle.scatter_text.specs.Grammar.{form, HasForm, word_of, row_tokens, IsShortRow, HasValues, vars_of, terms_before, Passes, IsGoodLine, AreGood, rows_onto}
 use Rattle.scatter_text.specs.Stages.{head_rows}
 use Rattle.scatter_text.proofs.Lines.{word_injective}
 use Rattle.scatter_text.proofs.Tokens.{numbers_form}

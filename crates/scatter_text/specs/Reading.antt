@@ -1,5 +1,5 @@
 -- What the parts of the reader say of each other.
-use Rattle.std.specs.Prelude.{◌≡◌, ℕ, List, [], ◌∷◌, ℤ, pos, ◌≤ℤ◌, nat_abs, All, Contains, map, slice_get, Some}
+use Rattle.std.specs.Prelude.{◌≡◌, ℕ, List, ℤ, pos, ◌≤ℤ◌, nat_abs, All, Contains, map, slice_get, Some}
 use Rattle.std.specs.Fmt.{signed_decimal}
 use Rattle.scatter_text.specs.declared.file.Coordinate.{Coordinate}
 use Rattle.scatter_text.specs.declared.fault.TextKind.{TextKind}

@@ -23,6 +23,27 @@ pub enum TextKind {
     Missing,
 }
 
+impl TextKind {
+    ghost use Rattle.std.specs.Prelude.{◌≡◌};
+    ghost use Rattle.scatter_text.specs.Grammar.{kind_word};
+
+    /// The word that is printed.
+    pub fn word(self) -> &'static [u8]
+        ensures { result.now ≡ kind_word self }
+    {
+        match self {
+            TextKind::Unfinished => b"unfinished",
+            TextKind::Byte => b"byte",
+            TextKind::Shape => b"shape",
+            TextKind::Word => b"word",
+            TextKind::Count => b"count",
+            TextKind::Number => b"number",
+            TextKind::Value => b"value",
+            TextKind::Missing => b"missing",
+        }
+    }
+}
+
 /// Why a text wasn't read.
 #[derive(Debug, Drop, Error)]
 pub enum TextFault {
@@ -57,4 +78,27 @@ pub enum LimitKind {
     Place,
     /// What this version doesn't compute yet.
     Unbuilt,
+}
+
+impl LimitKind {
+    ghost use Rattle.std.specs.Prelude.{◌≡◌};
+    ghost use Rattle.scatter_text.specs.Limits.{limit_word};
+
+    /// The word that is printed.
+    pub fn word(self) -> &'static [u8]
+        ensures { result.now ≡ limit_word self }
+    {
+        match self {
+            LimitKind::Bytes => b"bytes",
+            LimitKind::Vars => b"vars",
+            LimitKind::Size => b"size",
+            LimitKind::Lines => b"lines",
+            LimitKind::Terms => b"terms",
+            LimitKind::Coefficient => b"coefficient",
+            LimitKind::Exponent => b"exponent",
+            LimitKind::Power => b"power",
+            LimitKind::Place => b"point",
+            LimitKind::Unbuilt => b"unbuilt",
+        }
+    }
 }

@@ -11,9 +11,11 @@ mod number;
 mod reading;
 mod rows;
 mod stage;
+#[cfg(test)]
+mod tests;
 
 pub use fault::{LimitKind, TextFault, TextKind};
 pub use file::{Coordinate, LineRow, TermRow, TextFile};
 pub use limits::check_limits;
-pub use reading::read_text;
+pub use reading::{one_outcome, read_text};
 pub use rows::Rows;

@@ -1,8 +1,9 @@
-// Reading a text.
-ghost use Rattle.std.specs.Prelude.{◌≡◌, ℕ, ◌≤◌, ◌^◌, [], ◌∷◌, length, IfOk};
+// Reading a text line by line, by what the rows before a line allow.
+ghost use Rattle.std.specs.Prelude.{◌≡◌, List, ℕ, ◌≤◌, ◌^◌, [], ◌∷◌, length, IfOk};
 ghost use Rattle.scatter_text.specs.Grammar.{IsTextOf, IsTextFault, file_text, file_rows, IsBadLine, IsFaultAfter};
 ghost use Rattle.scatter_text.specs.Stages.{rows_of, Follows, AreRead};
 ghost use Rattle.scatter_text.specs.declared.fault.TextKind.{TextKind};
+ghost use Rattle.scatter_text.specs.declared.file.TextFile.{TextFile};
 
 use crate::fault::{TextFault, TextKind};
 use crate::file::TextFile;
@@ -12,11 +13,12 @@ use crate::rows::Rows;
 use crate::stage::Stage;
 use std::alloc::Global;
 
-/// Reads a text of at most 2^20 bytes.
+/// The file that a text says, or `Bad` with its first fault: the line, counted from 1, and the kind. `Memory` may come on any text.
+/// A line takes time in the number of terms that the same line of the diagram has already.
 pub fn read_text(alloc: Global, bytes: &[u8]) -> Result<TextFile, TextFault>
     requires { length bytes.now ≤ 2 ^ 20 }
     ensures file { IfOk result (IsTextOf bytes.now) }
-    // ensures spelling { IfOk result (λ file. bytes.now ≡ file_text file) }
+    ensures spelling { IfOk result (λ file. bytes.now ≡ file_text file) }
     ensures fault { (line : ℕ) (kind : TextKind) → result ≡ Err (TextFault.Bad line kind) → IsTextFault bytes.now line kind }
 {
     let mut stage = Stage::Start;
@@ -32,6 +34,12 @@ pub fn read_text(alloc: Global, bytes: &[u8]) -> Result<TextFile, TextFault>
     }
     finish(stage, rest, number)
 }
+
+/// No text has both a file and a fault, nor two faults.
+pub fn one_outcome()
+    ensures file_or_fault { (bytes : List ℕ) (file : TextFile) (line : ℕ) (kind : TextKind) → IsTextOf bytes file → IsTextFault bytes line kind → ⊥ }
+    ensures one_fault { (bytes : List ℕ) (l m : ℕ) (k j : TextKind) → IsTextFault bytes l k → IsTextFault bytes m j → (l ≡ m) × (k ≡ j) }
+{}
 
 /// A line's fault as that of a text.
 fn at(fault: LineFault, line: u32) -> TextFault

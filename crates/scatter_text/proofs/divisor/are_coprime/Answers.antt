@@ -1,7 +1,6 @@
-use Rattle.std.proofs.Common.{arith, eqb, ◌≡◌, ◌∙◌, true}
+use Rattle.std.proofs.Common.{arith, ◌≡◌, ◌∙◌}
 use Rattle.std.proofs.lemmas.Bool.Decides.{Decides-eqb}
 use Rattle.scatter_text.proofs.Divisors.{coprime_from_gcd, gcd_from_coprime}
-use Rattle.scatter_text.specs.Limits.{gcd}
 use Rattle.scatter_text.proofs.divisor.are_coprime.Goals as goal
 
 pub returns : goal.returns

@@ -1,5 +1,5 @@
-use Rattle.std.proofs.Common.{rules, arith, ◌≡◌, ◌≢◌, [], List, ℕ, All, refl}
-use Rattle.std.proofs.lemmas.List.Elements.{All-map, AllWithin-upto, All-from_all_within}
+use Rattle.std.proofs.Common.{arith, ◌≢◌, [], List, ℕ, refl}
+use Rattle.std.proofs.lemmas.List.Elements.{All-map}
 use Rattle.scatter_text.proofs.Tokens.{All-unmap, empty_from_test}
 use Rattle.scatter_text.proofs.line.are_separate.Goals as goal
 

@@ -1,8 +1,8 @@
-use Rattle.std.proofs.Common.{rules, arith, ◌≡◌, ◌≢◌, [], List, ℕ, All, map, length, ◌+◌, nat_abs, sym, ◌∙◌, ap, get_or}
+use Rattle.std.proofs.Common.{arith, ◌≡◌, [], List, ℕ, map, length, ◌+◌, nat_abs, sym, ◌∙◌, ap}
 use Rattle.std.proofs.lemmas.List.{get_or-map, length-map}
 use Rattle.std.proofs.lemmas.Slice.Eq.{slice_eq-Decides}
 use Rattle.std.proofs.lemmas.Bool.Decides.{Decides-eqb}
-use Rattle.std.proofs.lemmas.Int.{ints, to_z-of_z}
+use Rattle.std.proofs.lemmas.Int.{to_z-of_z}
 use Rattle.scatter_text.proofs.Tokens.{line_form, term_form}
 use Rattle.scatter_text.proofs.line.has_form.Goals as goal
 
@@ -10,8 +10,8 @@ pub returns-then-tokens-eq6 : goal.returns-then-tokens-eq6
 returns-then-tokens-eq6 c =
     let texts : List (List ℕ) = map (λ t. t.now) c.args.tokens.now in
     let form = line_form c.args.vars texts (rw c.in-Line.is at c.requires) (length-map c.args.tokens.now (λ t. t.now) ∙ c.if-tokens-eq6.true) in
-    let decides = slice_eq-Decides Decides-eqb _ c.as_slice.result.now c.eq.result c.eq.ensures in
     let third = get_or-map (λ t. t.now) c.args.tokens.now 3 record { ref_ptr = (0, 0); now = [] } [] (omega arith) in
+    let decides = slice_eq-Decides Decides-eqb _ c.as_slice.result.now c.eq.result c.eq.ensures in
     rw c.in-Line.is (λ yes. form.1 (third ∙ decides.0 yes ∙ c.as_slice.ensures), λ h. decides.1 (sym third ∙ form.0 h ∙ sym c.as_slice.ensures))
 
 pub returns-in-Term : goal.returns-in-Term

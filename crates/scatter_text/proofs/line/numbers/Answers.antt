@@ -1,9 +1,8 @@
-use Rattle.std.proofs.Common.{rules, FitsSigned, arith, ◌≡◌, ◌≢◌, [], ◌∷◌, ◌++◌, List, ℕ, All, map, sym, ◌∙◌, ap}
-use Rattle.std.specs.Fmt.{signed_decimal}
+use Rattle.std.proofs.Common.{rules, FitsSigned, ◌≡◌, [], ◌∷◌, ◌++◌, ◌∙◌}
 use Rattle.std.specs.Int.{w64}
 use Rattle.std.proofs.lemmas.Int.{to_z-of_z}
 use Rattle.std.proofs.lemmas.List.{map_more}
-use Rattle.scatter_text.specs.Grammar.{IsNumberText, IsShort}
+use Rattle.scatter_text.specs.Grammar.{IsNumberText}
 use Rattle.scatter_text.proofs.Tokens.{All-unmap, more_numbers}
 use Rattle.scatter_text.proofs.line.numbers.Goals as goal
 

@@ -1,9 +1,8 @@
-use Rattle.std.proofs.Common.{rules, arith, ◌≡◌, ◌≢◌, [], List, ℕ, ℤ, All, map, sym, ◌∙◌, ap, subst}
+use Rattle.std.proofs.Common.{◌≡◌, ◌≢◌, [], List, ℕ, All, map, sym, ◌∙◌, ap, subst}
 use Rattle.std.proofs.lemmas.Int.{to_z-of_z}
 use Rattle.std.proofs.lemmas.Result.{IfOk-weaker}
 use Rattle.scatter_text.specs.declared.grammar.Row.{Row}
 use Rattle.scatter_text.specs.Grammar.{place_after, vars_of}
-use Rattle.scatter_text.specs.Reading.{AreBadTokens, Say}
 use Rattle.scatter_text.proofs.Lines.{IsCut, bad_line, unvalued_line}
 use Rattle.scatter_text.proofs.line.row_at.Goals as goal
 

@@ -1,4 +1,4 @@
-use Rattle.std.proofs.Common.{rules, arith, ◌≡◌, [], List, ℕ, map, length, drop, sym, ◌∙◌, ap}
+use Rattle.std.proofs.Common.{arith, ◌≡◌, [], List, ℕ, map, length, sym, ◌∙◌, ap}
 use Rattle.std.proofs.lemmas.List.{get_or-map, drop-map, length-map, take_rest}
 use Rattle.std.proofs.lemmas.Result.{IfOk-weaker}
 use Rattle.scatter_text.specs.declared.grammar.Keyword.TheVariants as keyword

@@ -1,6 +1,6 @@
-use Rattle.std.proofs.Common.{rules, arith, ◌≡◌, ◌+◌, take, drop, sym, ◌∙◌, ap, FitsSigned}
+use Rattle.std.proofs.Common.{rules, ◌+◌, take, drop, sym, ◌∙◌, FitsSigned}
 use Rattle.std.specs.Int.{w64}
-use Rattle.std.proofs.lemmas.Int.{ints, to_z-of_z}
+use Rattle.std.proofs.lemmas.Int.{to_z-of_z}
 use Rattle.std.proofs.lemmas.List.{take_rest}
 use Rattle.scatter_text.proofs.Cuts.{cut-Some, cut-None}
 use Rattle.scatter_text.proofs.Coordinates.{coordinate_from_number, not_coordinate_whole, coordinate_from_parts}

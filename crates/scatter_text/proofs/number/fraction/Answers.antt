@@ -1,6 +1,6 @@
-use Rattle.std.proofs.Common.{FitsSigned, rules, arith, ◌≡◌, sym, ◌∙◌, ap}
+use Rattle.std.proofs.Common.{FitsSigned, rules}
 use Rattle.std.specs.Int.{w64}
-use Rattle.std.proofs.lemmas.Int.{ints, to_z-of_z}
+use Rattle.std.proofs.lemmas.Int.{to_z-of_z}
 use Rattle.std.proofs.lemmas.Bool.Decides.{not_from_Decides}
 use Rattle.scatter_text.proofs.Numbers.{not_fraction}
 use Rattle.scatter_text.proofs.number.fraction.Goals as goal

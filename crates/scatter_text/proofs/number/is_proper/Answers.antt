@@ -1,4 +1,4 @@
-use Rattle.std.proofs.Common.{arith, ◌≡◌, ◌≤ℤ◌, pos, nat_abs, IsTrue}
+use Rattle.std.proofs.Common.{arith, IsTrue}
 use Rattle.std.proofs.lemmas.Int.{ints, to_z-of_z}
 use Rattle.scatter_text.proofs.Numbers.{proper_decided}
 use Rattle.scatter_text.proofs.number.is_proper.Goals as goal

@@ -1,4 +1,4 @@
-use Rattle.std.proofs.Common.{inl, inr, rules, arith, ◌≡◌, ◌∙◌, ap, sym, subst, FitsSigned, List}
+use Rattle.std.proofs.Common.{inr, rules, ◌≡◌, subst, FitsSigned}
 use Rattle.std.specs.Int.{w64}
 use Rattle.std.proofs.lemmas.Int.{to_z-of_z}
 use Rattle.scatter_text.specs.declared.fault.TextKind.TheVariants.{Missing}

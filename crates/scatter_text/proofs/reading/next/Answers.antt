@@ -1,12 +1,11 @@
-use Rattle.std.proofs.Common.{rules, arith, ◌≡◌, ◌∙◌, ap, sym, Err, FitsSigned}
+use Rattle.std.proofs.Common.{rules, ◌≡◌, ◌∙◌, ap, Err, FitsSigned}
 use Rattle.std.specs.Int.{w64}
 use Rattle.std.proofs.lemmas.Int.{to_z-of_z}
 use Rattle.std.proofs.lemmas.Bool.Decides.{not_from_Decides}
 use Rattle.scatter_text.specs.declared.fault.TextKind.TheVariants.{Value}
-use Rattle.scatter_text.specs.declared.line.LineFault.{LineFault}
 use Rattle.scatter_text.specs.declared.line.LineFault.TheVariants.{Bad}
 use Rattle.scatter_text.specs.Stages.{rows_of}
-use Rattle.scatter_text.proofs.RowTexts.{bad_value, good_line}
+use Rattle.scatter_text.proofs.RowTexts.{bad_value}
 use Rattle.scatter_text.proofs.reading.next.Goals as goal
 
 pub returns-then-not-allows-clause-bad : goal.returns-then-not-allows-clause-bad

@@ -1,13 +1,12 @@
-use Rattle.std.proofs.Common.{rules, arith, ℕ, ◌+◌, List, ◌≡◌, ◌∙◌, ap, sym, subst, Err}
+use Rattle.std.proofs.Common.{ℕ, ◌+◌, List, ◌≡◌, ◌∙◌, ap, sym, subst, Err, IfOk}
 use Rattle.std.proofs.lemmas.List.{take_rest}
 use Rattle.std.proofs.lemmas.Result.{IfOk-weaker}
-use Rattle.scatter_text.specs.declared.fault.TextFault.{TextFault}
 use Rattle.scatter_text.specs.declared.fault.TextFault.TheVariants as text
-use Rattle.scatter_text.specs.declared.line.LineFault.TheVariants as line_fault
 use Rattle.scatter_text.specs.Stages.{rows_of}
 use Rattle.scatter_text.specs.Grammar.{IsTextFault, IsTextOf}
 use Rattle.scatter_text.proofs.Cuts.{cut-Some, cut-no_Some}
 use Rattle.scatter_text.proofs.Texts.{IsReadTo, read_to-more, fault_at_line, fault_at_end, text_of}
+use Rattle.scatter_text.proofs.Outcomes.{text_is}
 use Rattle.scatter_text.proofs.reading.read_text.Goals as goal
 
 pub returns-in-Err-clause-fault : goal.returns-in-Err-clause-fault
@@ -33,7 +32,13 @@ returns-clause-fault c = λ line kind is.
     let bad = c.finish.ensures.bad line kind is in
     fault_at_end c.args.bytes.now c.loop-end.rest.now (rows_of c.loop-end.stage) c.loop-end.number line kind c.loop-end.invariant one bad.0 bad.1
 
-pub returns-clause-file : goal.returns-clause-file
-returns-clause-file c =
+is_text : (c : goal.After-finish) → IfOk c.finish.result (IsTextOf c.args.bytes.now)
+is_text c =
     let one = cut-no_Some 10 c.loop-end.rest.now c.find_byte.result c.find_byte.ensures c.in_default.not-Some in
     IfOk-weaker c.finish.result _ _ (λ file ok. text_of c.args.bytes.now c.loop-end.rest.now (rows_of c.loop-end.stage) c.loop-end.number file c.loop-end.invariant one ok.0 ok.1) c.finish.ensures.ok
+
+pub returns-clause-file : goal.returns-clause-file
+returns-clause-file c = is_text c
+
+pub returns-clause-spelling : goal.returns-clause-spelling
+returns-clause-spelling c = IfOk-weaker c.finish.result _ _ (λ file is. text_is c.args.bytes.now file is) (is_text c)

@@ -1,7 +1,7 @@
-use Rattle.std.proofs.Common.{◌≡◌, List, fold, All, subst, sym, ap}
+use Rattle.std.proofs.Common.{List, fold, All, subst, sym}
 use Rattle.scatter_text.specs.declared.file.TermRow.{TermRow}
-use Rattle.scatter_text.specs.Grammar.{rows_onto, terms_before}
-use Rattle.scatter_text.specs.Stages.{head_rows, rows_of}
+use Rattle.scatter_text.specs.Grammar.{rows_onto}
+use Rattle.scatter_text.specs.Stages.{head_rows}
 use Rattle.scatter_text.specs.Values.{AreAlike}
 use Rattle.scatter_text.proofs.StageRows.{all_terms-line}
 use Rattle.scatter_text.proofs.stage.Stage.is_new.Goals as goal

@@ -1,4 +1,4 @@
-use Rattle.std.proofs.Common.{◌∙◌, ap, ◌≡◌, sym}
+use Rattle.std.proofs.Common.{◌∙◌, ap}
 use Rattle.scatter_text.specs.Grammar.{place_after}
 use Rattle.scatter_text.specs.Stages.{rows_of}
 use Rattle.scatter_text.proofs.StageRows.{place_after-line}

@@ -1,4 +1,4 @@
-use Rattle.std.proofs.Common.{rules, FitsSigned, ◌∙◌, ap, ◌≡◌, sym}
+use Rattle.std.proofs.Common.{rules, FitsSigned, ◌∙◌, ap}
 use Rattle.std.specs.Int.{w64}
 use Rattle.std.proofs.lemmas.Int.{to_z-of_z}
 use Rattle.scatter_text.specs.Grammar.{vars_of}

@@ -1,8 +1,7 @@
-use Rattle.std.proofs.Common.{rules, FitsSigned, ◌≡◌, List, ◌∷◌, fold, subst, sym, ◌∙◌, ap, Contains, ℤ}
+use Rattle.std.proofs.Common.{rules, FitsSigned, ◌∷◌, fold, subst, sym, ◌∙◌, ap, Contains}
 use Rattle.std.specs.Int.{w64}
 use Rattle.std.proofs.lemmas.Int.{to_z-of_z}
 use Rattle.scatter_text.specs.declared.grammar.Place.{Place}
-use Rattle.scatter_text.specs.declared.grammar.Row.{Row}
 use Rattle.scatter_text.specs.Grammar.{place_after, words_at, keyword_of, rows_onto}
 use Rattle.scatter_text.specs.Stages.{rows_of, head_rows}
 use Rattle.scatter_text.proofs.StageRows.{place_after-line, body_allows, body_line, body_term, body_end}
