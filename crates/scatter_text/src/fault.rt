@@ -28,18 +28,18 @@ impl TextKind {
     ghost use Rattle.scatter_text.specs.Grammar.{kind_word};
 
     /// The word that is printed.
-    pub fn word(self) -> &'static [u8]
+    pub fn word(self) -> &'static str
         ensures { result.now ≡ kind_word self }
     {
         match self {
-            TextKind::Unfinished => b"unfinished",
-            TextKind::Byte => b"byte",
-            TextKind::Shape => b"shape",
-            TextKind::Word => b"word",
-            TextKind::Count => b"count",
-            TextKind::Number => b"number",
-            TextKind::Value => b"value",
-            TextKind::Missing => b"missing",
+            TextKind::Unfinished => "unfinished",
+            TextKind::Byte => "byte",
+            TextKind::Shape => "shape",
+            TextKind::Word => "word",
+            TextKind::Count => "count",
+            TextKind::Number => "number",
+            TextKind::Value => "value",
+            TextKind::Missing => "missing",
         }
     }
 }
@@ -85,20 +85,20 @@ impl LimitKind {
     ghost use Rattle.scatter_text.specs.Limits.{limit_word};
 
     /// The word that is printed.
-    pub fn word(self) -> &'static [u8]
+    pub fn word(self) -> &'static str
         ensures { result.now ≡ limit_word self }
     {
         match self {
-            LimitKind::Bytes => b"bytes",
-            LimitKind::Vars => b"vars",
-            LimitKind::Size => b"size",
-            LimitKind::Lines => b"lines",
-            LimitKind::Terms => b"terms",
-            LimitKind::Coefficient => b"coefficient",
-            LimitKind::Exponent => b"exponent",
-            LimitKind::Power => b"power",
-            LimitKind::Place => b"point",
-            LimitKind::Unbuilt => b"unbuilt",
+            LimitKind::Bytes => "bytes",
+            LimitKind::Vars => "vars",
+            LimitKind::Size => "size",
+            LimitKind::Lines => "lines",
+            LimitKind::Terms => "terms",
+            LimitKind::Coefficient => "coefficient",
+            LimitKind::Exponent => "exponent",
+            LimitKind::Power => "power",
+            LimitKind::Place => "point",
+            LimitKind::Unbuilt => "unbuilt",
         }
     }
 }

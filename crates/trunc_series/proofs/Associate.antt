@@ -3,8 +3,8 @@ use Rattle.std.proofs.Common.{◌≡◌, ℕ, ◌+◌, ◌<◌, refl, sym, ap, �
 use Rattle.std.specs.Prelude.{ℤ, pos, ◌+ℤ◌, ◌*ℤ◌, nat_le}
 use mathlib.Core.Path.{fun_ext}
 use lib.IntN.{+ℤ_assoc}
-use Rattle.sum_algebra.specs.Ring.{ring, nought, unit as one_of}
-use Rattle.sum_algebra.specs.RingUse.{ints_ring, ◌:+◌, ◌:*◌, X, Y, Z, W}
+use Rattle.sum_algebra.proofs.Ring.{ring, nought, unit as one_of}
+use Rattle.sum_algebra.proofs.IntegerRing.{ints_ring, ◌:+◌, ◌:*◌, X, Y, Z, W}
 use Rattle.scattering.specs.Series.{Key, Term, Sum, Same, degree, key_eq, key_mul, term_mul, coef, cut, mul}
 use Rattle.scattering.proofs.Pairing.{pairing, pairing-append}
 use Rattle.trunc_series.proofs.Rows.{row_sum}

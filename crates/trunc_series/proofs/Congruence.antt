@@ -3,8 +3,8 @@ use Rattle.std.proofs.Common.{◌≡◌, ℕ, zero, suc, ◌+◌, ◌≤◌, ref
 use Rattle.std.specs.Prelude.{ℤ, pos, ◌+ℤ◌, ◌*ℤ◌, nat_le}
 use Rattle.std.proofs.lemmas.Int.{ints}
 use lib.IntN.{*ℤ_comm, +ℤ_comm}
-use Rattle.sum_algebra.specs.Ring.{ring, nought, unit as one_of}
-use Rattle.sum_algebra.specs.RingUse.{ints_ring, ◌:+◌, ◌:*◌, X, Y, Z}
+use Rattle.sum_algebra.proofs.Ring.{ring, nought, unit as one_of}
+use Rattle.sum_algebra.proofs.IntegerRing.{ints_ring, ◌:+◌, ◌:*◌, X, Y, Z}
 use Rattle.scattering.specs.Series.{Key, Term, Sum, degree, key_eq, key_mul, term_mul, coef, coef_at, cut, mul}
 use Rattle.scattering.proofs.Keys.{key_eq-refl}
 use Rattle.scattering.proofs.Pairing.{pairing, pairing-split, without, coef-without, length-without}
