@@ -100,7 +100,7 @@ has-coef P (t ∷ f) z r h = (first, has-coef P f z r.1 (λ k. go k (key_eq t.0 
     go k false e = subst P (rw (e) (skip-zero (coef f k))) (h k)
 
 -- no coefficient is above the mass
-abs-add : (x y : ℤ) → nat_abs (x +ℤ y) ≤ nat_abs x + nat_abs y
+pub abs-add : (x y : ℤ) → nat_abs (x +ℤ y) ≤ nat_abs x + nat_abs y
 abs-add x y = omega (arith, ints)
 
 pub abs-coef : (n : ℕ) (f : Sum) (k : Key) → Every (λ t. degree t.0 ≤ n) f → nat_abs (coef f k) ≤ mass_to n f

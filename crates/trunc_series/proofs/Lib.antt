@@ -14,5 +14,6 @@ pub mod Majorants
 pub mod Congruence
 pub mod Associate
 pub mod PowerLaws
+pub mod PowersNear
 pub mod Inverses
 pub mod Unique

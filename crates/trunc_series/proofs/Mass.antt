@@ -1,18 +1,14 @@
 -- Like terms added, the mass does not grow; so the mass of a series is at most that of each sum with its coefficients.
 use Rattle.std.proofs.Common.{◌≡◌, ℕ, ◌+◌, ◌≤◌, refl, sym, subst, ◌∙◌, Bool, true, false, cond, [], ◌∷◌, arith}
 use Rattle.std.specs.Prelude.{ℤ, pos, ◌+ℤ◌, nat_abs, nat_le}
-use Rattle.std.proofs.lemmas.Int.{ints}
 use Rattle.scattering.specs.Series.{Key, Term, Sum, IsSeries, Same, degree, key_eq, coef, mass_to}
 use Rattle.scattering.proofs.Keys.{key_eq-same, key_eq-refl}
 use Rattle.scattering.proofs.Pairing.{without, coef-without}
-use Rattle.trunc_series.proofs.Coefficients.{Apart, apart-rising, skip-zero, add-zero, coef-none_at}
+use Rattle.trunc_series.proofs.Coefficients.{abs-add, Apart, apart-rising, skip-zero, add-zero, coef-none_at}
 
 -- a term's part of the mass
 abbrev part : ℕ → Term → ℕ
 part n t = elim (nat_le (degree t.0) n) [ true ↦ nat_abs t.1 | false ↦ 0 ]
-
-abs-add : (x y : ℤ) → nat_abs (x +ℤ y) ≤ nat_abs x + nat_abs y
-abs-add x y = omega (arith, ints)
 
 -- the terms of one key taken out
 mass-without : (n : ℕ) (x : Key) (f : Sum) → part n (x, coef f x) + mass_to n (without x f) ≤ mass_to n f

@@ -1,6 +1,6 @@
 -- Powers add up; their keys, and those of reduced lists.
 use Rattle.std.proofs.Common.{◌≡◌, ◌≢◌, ℕ, zero, suc, ◌+◌, ◌<◌, ◌≤◌, refl, sym, subst, ap, ◌∙◌, Bool, true, false, cond, not, [], ◌∷◌, ◌++◌, arith, zero-add, add-one}
-use Rattle.std.specs.Prelude.{ℤ, pos, ◌+ℤ◌, ◌*ℤ◌, nat_le, nat_abs, IsTrue}
+use Rattle.std.specs.Prelude.{ℤ, pos, ◌*ℤ◌, nat_le, IsTrue}
 use Rattle.std.proofs.lemmas.Int.{ints}
 use Rattle.std.proofs.lemmas.List.{append-nil}
 use Rattle.std.proofs.lemmas.Bool.{le-leb}
@@ -14,7 +14,7 @@ use Rattle.trunc_series.specs.Arithmetic.{kept, IsKeepable}
 use Rattle.trunc_series.specs.Shown.{IsNear}
 use Rattle.trunc_series.specs.Reduced.{IsReduced, IsFactor, IsNearKey, IsTame}
 use Rattle.trunc_series.proofs.Kept.{kept-zero, kept-one, keepable-one}
-use Rattle.trunc_series.proofs.Coefficients.{Every-weaker, Every-append, skip-zero, add-zero, coef-none, apart}
+use Rattle.trunc_series.proofs.Coefficients.{Every-weaker, Every-append, abs-add, skip-zero, add-zero, coef-none, apart}
 use Rattle.trunc_series.proofs.Bisection.{apart-back}
 use Rattle.trunc_series.proofs.Merging.{whole}
 use Rattle.trunc_series.proofs.Rows.{row_sum, Every-filter, reduced-same, mul-keepable}
@@ -77,11 +77,11 @@ pow-add n f (suc i) j k =
 
 -- ---- keys
 
-pub mul-every : (P : Key → Type 0) → ((k l : Key) → P k → P l → P (key_mul k l)) → (n : ℕ) (f g : Sum) → Every (λ t. P t.0) f → Every (λ t. P t.0) g → Every (λ t. P t.0) (mul n f g)
-mul-every P c n [] g h k = tt
-mul-every P c n (t ∷ f) g h k = Every-append (λ u. P u.0) (cut n (row_sum t g)) (mul n f g) (Every-filter (λ u. P u.0) (λ u. nat_le (degree u.0) n) (row_sum t g) (row g k)) (mul-every P c n f g h.1 k)
+pub mul-every : (P Q R : Key → Type 0) → ((k l : Key) → P k → Q l → R (key_mul k l)) → (n : ℕ) (f g : Sum) → Every (λ t. P t.0) f → Every (λ t. Q t.0) g → Every (λ t. R t.0) (mul n f g)
+mul-every P Q R c n [] g h k = tt
+mul-every P Q R c n (t ∷ f) g h k = Every-append (λ u. R u.0) (cut n (row_sum t g)) (mul n f g) (Every-filter (λ u. R u.0) (λ u. nat_le (degree u.0) n) (row_sum t g) (row g k)) (mul-every P Q R c n f g h.1 k)
   where
-    row : (g : Sum) → Every (λ u. P u.0) g → Every (λ u. P u.0) (row_sum t g)
+    row : (g : Sum) → Every (λ u. Q u.0) g → Every (λ u. R u.0) (row_sum t g)
     row [] e = tt
     row (u ∷ g) e = (c t.0 u.0 h.0 e.0, row g e.1)
 
@@ -92,13 +92,10 @@ tame-mul k l h i =
     let a = abs-add k.exp.a l.exp.a in
     let b = abs-add k.exp.b l.exp.b in
     (rw d (omega (arith, a)), rw d (omega (arith, b)))
-  where
-    abs-add : (x y : ℤ) → nat_abs (x +ℤ y) ≤ nat_abs x + nat_abs y
-    abs-add x y = omega (arith, ints)
 
 pub pow-tame : (n : ℕ) (f : Sum) (i : ℕ) → Every (λ t. IsTame t.0) f → Every (λ t. IsTame t.0) (pow n f i)
 pow-tame n f zero h = ((omega arith, omega arith), tt)
-pow-tame n f (suc i) h = mul-every IsTame tame-mul n f (pow n f i) h (pow-tame n f i h)
+pow-tame n f (suc i) h = mul-every IsTame IsTame IsTame tame-mul n f (pow n f i) h (pow-tame n f i h)
 
 pub rest-tame : (f : Sum) → IsNear f → Every (λ t. 1 ≤ degree t.0) (rest f) → Every (λ t. IsTame t.0) f
 rest-tame [] h r = tt
@@ -116,7 +113,7 @@ key-from P (t ∷ f) k h n = go (key_eq t.0 k) refl (key-from P f k h.1)
     go true e i = subst P (key_eq-same t.0 k e) h.0
     go false e i = i (λ z. n (rw (e, z) refl))
 
-each-own : (f : Sum) → EveryPair (λ t u. IsTrue (key_before t.0 u.0)) f → Every (λ t. coef f t.0 ≡ t.1) f
+pub each-own : (f : Sum) → EveryPair (λ t u. IsTrue (key_before t.0 u.0)) f → Every (λ t. coef f t.0 ≡ t.1) f
 each-own [] r = tt
 each-own (t ∷ f) r =
     (rw (key_eq-refl t.0, coef-none f t.0 (Every-weaker (λ (u : Term). IsTrue (key_before t.0 u.0)) (λ u. key_eq u.0 t.0 ≡ false) f (λ u b. apart t.0 u.0 b) r.0)) (add-zero t.1), go f r.0 (each-own f r.1))
@@ -133,16 +130,12 @@ reduced-keys rule P n r f h e = go r (each-own r h.series.rises) h.series.nonzer
     go [] o z k = tt
     go (t ∷ g) o z k = (key-from P f t.0 e (λ q. z.0 (sym k.0.0 ∙ ap (kept rule) (sym o.0) ∙ h.same t.0 ∙ ap (kept rule) q ∙ kept-zero rule)), go g o.1 z.1 k.1)
 
-pub reduced-factor : (rule : Arithmetic) (n : ℕ) (r f : Sum) → n ≤ 24 → IsReduced rule n r f → Every (λ t. IsTame t.0) f → IsFactor rule r
-reduced-factor rule n r f o h e = record {
+pub near-factor : (rule : Arithmetic) (n : ℕ) (r f : Sum) → IsReduced rule n r f → Every (λ t. IsNearKey t.0) f → IsFactor rule r
+near-factor rule n r f h e = record {
   rises = h.series.rises;
   keepable = whole rule r h.keeps;
-  near = near r (reduced-keys rule IsTame n r f h e) h.series.low;
+  near = reduced-keys rule IsNearKey n r f h e;
 }
-  where
-    near : (g : Sum) → Every (λ t. IsTame t.0) g → Every (λ t. degree t.0 ≤ n) g → Every (λ t. IsNearKey t.0) g
-    near [] t l = tt
-    near (u ∷ g) t l = let p = t.0.0 in let q = t.0.1 in let d = l.0 in ((omega (arith, p, d), omega (arith, q, d)), near g t.1 l.1)
 
 -- ---- the steps of a power
 

@@ -3,7 +3,7 @@ use Rattle.std.specs.Prelude.{◌≡◌, ℕ, ◌+◌, ◌*◌, ◌<◌, ◌≤�
 use Rattle.std.specs.declared.cmp.Ordering.{Ordering}
 use Rattle.std.specs.declared.cmp.Ordering.TheVariants.{Less, Equal, Greater}
 use Rattle.scattering.specs.Collections.{Every, EveryPair}
-use Rattle.scattering.specs.Series.{Key, Sum, IsSeries, key_before, coef, degree, term_mul}
+use Rattle.scattering.specs.Series.{Key, Sum, IsSeries, key_before, coef, degree, pow, term_mul}
 use Rattle.trunc_series.specs.declared.arithmetic.Arithmetic.{Arithmetic}
 use Rattle.trunc_series.specs.declared.arithmetic.Arithmetic.TheVariants.{Saturating}
 use Rattle.trunc_series.specs.Arithmetic.{kept, IsKeepable}
@@ -44,3 +44,7 @@ absolute_sum f = map (λ t. (t.0, kept Saturating (pos (nat_abs t.1)))) f
 -- no exponent grows faster than the degree
 abbrev pub IsTame : Key → Type 0
 IsTame k = (nat_abs k.exp.a ≤ degree k * 2 ^ 16) × (nat_abs k.exp.b ≤ degree k * 2 ^ 16)
+
+-- the exponents of the powers up to the m-th can be added to another in an i32
+abbrev pub ArePowersNear : ℕ → Sum → ℕ → Type 0
+ArePowersNear n f m = (i : ℕ) → i ≤ m → Every (λ t. IsNearKey t.0) (pow n f i)

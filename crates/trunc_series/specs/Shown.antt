@@ -4,7 +4,7 @@
 --     IsSeriesOf s n f         s is the series of order n with the coefficients of f
 use Rattle.std.specs.Prelude.{◌≡◌, ℕ, ◌<◌, ◌≤◌, ◌^◌, ◌≢◌, ℤ, pos, negsuc, suc, nat_abs, List, map, slice_index}
 use Rattle.scattering.specs.Collections.{Every}
-use Rattle.scattering.specs.Series.{Exp, Powers, Key, Term, Sum, IsSeries, Same, degree, pow, absolute, geometric}
+use Rattle.scattering.specs.Series.{Exp, Powers, Key, Term, Sum, IsSeries, Same, coef, degree, pow, absolute, geometric}
 use Rattle.trunc_series.specs.declared.key.Exp.{Exp as CodeExp}
 use Rattle.trunc_series.specs.declared.key.Key.{Key as CodeKey}
 
@@ -47,6 +47,10 @@ pub record IsValid (n : ℕ) (f : Sum) : Type 0 where
 -- no exponent is above 2^16 in absolute value
 abbrev pub IsNear : Sum → Type 0
 IsNear f = Every (λ t. (nat_abs t.0.exp.a ≤ 2 ^ 16) × (nat_abs t.0.exp.b ≤ 2 ^ 16)) f
+
+-- no exponent that f has is above 2^16 in absolute value
+abbrev pub HasNearKeys : Sum → Type 0
+HasNearKeys f = (k : Key) → coef f k ≢ pos 0 → (nat_abs k.exp.a ≤ 2 ^ 16) × (nat_abs k.exp.b ≤ 2 ^ 16)
 
 -- what bounds the powers of f: those of |f|, or of 1/(2 - |f|)
 abbrev pub majorant_power : ℕ → Sum → ℤ → Sum

@@ -1,10 +1,10 @@
 // Series with coefficients of at least 0, each kept as the lesser of its value and 2^126 + 1. They test
 // the conditions on masses that exact series have.
 
-ghost use Rattle.std.specs.Prelude.{◌≡◌, ◌≤◌, ◌+◌, ◌^◌, ◌++◌, IfOk, min, pos};
+ghost use Rattle.std.specs.Prelude.{◌≡◌, ◌≤◌, ◌+◌, ◌^◌, ◌⊎◌, ◌++◌, IfOk, min, pos};
 ghost use Rattle.scattering.specs.Series.{degree, coef, unit, rest, mul, pow, absolute, geometric, mass_to};
 ghost use Rattle.scattering.specs.Collections.{Every};
-ghost use Rattle.trunc_series.specs.Shown.{sum_of, IsNear};
+ghost use Rattle.trunc_series.specs.Shown.{sum_of, IsNear, HasNearKeys};
 ghost use Rattle.trunc_series.specs.Capped.{IsMajorant, IsMajorantOf};
 
 use crate::arithmetic::{Arithmetic, LIMIT, total};
@@ -116,11 +116,11 @@ impl Majorant {
         })
     }
 
-    /// The power without terms of degree above the order, of a majorant whose terms other than that of the
-    /// constant key have degree at least 1.
+    /// The power without terms of degree above the order. Exponents are within 2^16, and so are those of the
+    /// power, unless all terms but that of the constant key have degree at least 1.
     pub fn power(&self, n: u32) -> Result<Majorant, AllocError>
-        requires others { Every (λ t. 1 ≤ degree t.0) (rest self.now.terms) }
         requires near { IsNear self.now.terms }
+        requires near_power { Every (λ t. 1 ≤ degree t.0) (rest self.now.terms) ⊎ HasNearKeys (pow self.now.order self.now.terms n) }
         ensures { IfOk result (λ m. IsMajorantOf m self.now.order (pow self.now.order self.now.terms n)) }
     {
         let terms = powered(

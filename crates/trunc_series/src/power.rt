@@ -4,7 +4,7 @@ ghost use Rattle.std.specs.Prelude.{◌≡◌, ◌≤◌, ◌<◌, ◌^◌, IfOk
 ghost use Rattle.scattering.specs.Collections.{Every};
 ghost use Rattle.scattering.specs.Series.{one, pow, powers_to, key_eq, unit, minus, degree, rest, inverse};
 ghost use Rattle.trunc_series.specs.Shown.{key_of, sum_of, IsNear, IsValid};
-ghost use Rattle.trunc_series.specs.Reduced.{IsReduced, IsTame};
+ghost use Rattle.trunc_series.specs.Reduced.{IsReduced, IsNearKey, IsTame, ArePowersNear};
 
 use crate::arithmetic::{Arithmetic, opposite};
 use crate::key::{Key, is_constant};
@@ -31,7 +31,8 @@ pub fn powered(
 ) -> Result<Vec<(Key, i128)>, AllocError>
     requires order { order ≤ 24 }
     requires reduced { IsReduced rule order (sum_of f.now) (sum_of f.now) }
-    requires tame { Every (λ t. IsTame t.0) (sum_of f.now) }
+    requires near { Every (λ t. IsNearKey t.0) (sum_of f.now) }
+    requires powers { ArePowersNear order (sum_of f.now) n }
     ensures { IfOk result (λ r. IsReduced rule order (sum_of r.items) (pow order (sum_of f.now) n)) }
 {
     if n == 0 {

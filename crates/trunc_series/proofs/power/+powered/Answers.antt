@@ -3,18 +3,18 @@ use Rattle.std.proofs.lemmas.Result.{IfOk-weaker}
 use Rattle.scattering.specs.Series.{pow}
 use Rattle.trunc_series.specs.Shown.{sum_of}
 use Rattle.trunc_series.specs.Reduced.{IsReduced}
-use Rattle.trunc_series.proofs.PowerLaws.{pow-tame, reduced-factor, pow-square, pow-more}
+use Rattle.trunc_series.proofs.PowerLaws.{near-factor, pow-square, pow-more}
 use Rattle.trunc_series.proofs.power.+powered.Goals as goal
 
 pub multiplied-requires-clause-left : goal.multiplied-requires-clause-left
 multiplied-requires-clause-left t c =
     rw c.as_slice.ensures.value
-    (reduced-factor c.args.rule c.args.order (sum_of c.in_ok-half.half.items) (pow c.args.order (sum_of c.args.f.now) (c.args.n / 2)) c.requires.order c.in_ok-half.ensures (pow-tame c.args.order (sum_of c.args.f.now) (c.args.n / 2) c.requires.tame))
+    (near-factor c.args.rule c.args.order (sum_of c.in_ok-half.half.items) (pow c.args.order (sum_of c.args.f.now) (c.args.n / 2)) c.in_ok-half.ensures (c.requires.powers (c.args.n / 2) (omega arith)))
 
 pub multiplied-requires-clause-right : goal.multiplied-requires-clause-right
 multiplied-requires-clause-right t c =
     rw c.as_slice-2.ensures.value
-    (reduced-factor c.args.rule c.args.order (sum_of c.in_ok-half.half.items) (pow c.args.order (sum_of c.args.f.now) (c.args.n / 2)) c.requires.order c.in_ok-half.ensures (pow-tame c.args.order (sum_of c.args.f.now) (c.args.n / 2) c.requires.tame))
+    (near-factor c.args.rule c.args.order (sum_of c.in_ok-half.half.items) (pow c.args.order (sum_of c.args.f.now) (c.args.n / 2)) c.in_ok-half.ensures (c.requires.powers (c.args.n / 2) (omega arith)))
 
 pub returns-then-n-eq0-2 : goal.returns-then-n-eq0-2
 returns-then-n-eq0-2 t c =
@@ -24,7 +24,7 @@ returns-then-n-eq0-2 t c =
     (rw (c.as_slice.ensures.value, c.as_slice-2.ensures.value) at c.in_ok-square.ensures))
 
 pub multiplied-requires-2-clause-left : goal.multiplied-requires-2-clause-left
-multiplied-requires-2-clause-left t c = reduced-factor c.args.rule c.args.order (sum_of c.args.f.now) (sum_of c.args.f.now) c.requires.order c.requires.reduced c.requires.tame
+multiplied-requires-2-clause-left t c = near-factor c.args.rule c.args.order (sum_of c.args.f.now) (sum_of c.args.f.now) c.requires.reduced c.requires.near
 
 pub multiplied-requires-2-clause-right : goal.multiplied-requires-2-clause-right
 multiplied-requires-2-clause-right t c =
@@ -33,7 +33,7 @@ multiplied-requires-2-clause-right t c =
     pow-square c.args.rule c.args.order (sum_of c.args.f.now) c.requires.reduced.keepable (c.args.n / 2) (sum_of c.in_ok-half.half.items) (sum_of c.in_ok-square.square.items) c.in_ok-half.ensures
     (rw (c.as_slice.ensures.value, c.as_slice-2.ensures.value) at c.in_ok-square.ensures) in
     rw c.as_slice-3.ensures.value
-    (reduced-factor c.args.rule c.args.order (sum_of c.in_ok-square.square.items) (pow c.args.order (sum_of c.args.f.now) (c.args.n / 2 + c.args.n / 2)) c.requires.order square (pow-tame c.args.order (sum_of c.args.f.now) (c.args.n / 2 + c.args.n / 2) c.requires.tame))
+    (near-factor c.args.rule c.args.order (sum_of c.in_ok-square.square.items) (pow c.args.order (sum_of c.args.f.now) (c.args.n / 2 + c.args.n / 2)) square (c.requires.powers (c.args.n / 2 + c.args.n / 2) (omega arith)))
 
 pub returns : goal.returns
 returns t c =

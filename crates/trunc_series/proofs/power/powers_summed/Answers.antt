@@ -1,15 +1,16 @@
-use Rattle.std.proofs.Common.{◌+◌}
+use Rattle.std.proofs.Common.{◌+◌, arith}
 use Rattle.scattering.specs.Series.{pow}
 use Rattle.trunc_series.specs.Shown.{sum_of}
 use Rattle.trunc_series.specs.Reduced.{IsReduced}
 use Rattle.trunc_series.proofs.Merging.{whole}
-use Rattle.trunc_series.proofs.PowerLaws.{pow-tame, reduced-factor, pow-more, sum-more}
+use Rattle.trunc_series.proofs.PowerLaws.{near-factor, pow-more, sum-more}
+use Rattle.trunc_series.proofs.PowersNear.{tame-powers}
 use Rattle.trunc_series.proofs.power.powers_summed.Goals as goal
 
 pub multiplied-requires-clause-right : goal.multiplied-requires-clause-right
 multiplied-requires-clause-right c =
     rw c.as_slice.ensures.value
-    (reduced-factor c.args.rule c.args.order (sum_of c.loop-i.power.items) (pow c.args.order (sum_of c.args.g.now) c.loop-i.i) c.requires.order c.loop-i.invariant.power (pow-tame c.args.order (sum_of c.args.g.now) c.loop-i.i c.requires.tame))
+    (near-factor c.args.rule c.args.order (sum_of c.loop-i.power.items) (pow c.args.order (sum_of c.args.g.now) c.loop-i.i) c.loop-i.invariant.power (tame-powers c.args.order (sum_of c.args.g.now) c.loop-i.i c.requires.order c.requires.tame c.loop-i.i (omega arith)))
 
 pub merged-requires-clause-left : goal.merged-requires-clause-left
 merged-requires-clause-left c = rw c.as_slice-in-loop-i.ensures.value (whole c.args.rule _ c.loop-i.invariant.total.keeps)

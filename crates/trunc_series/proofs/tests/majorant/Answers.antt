@@ -1,7 +1,5 @@
-use Rattle.std.proofs.Common.{◌≡◌, refl}
 use Rattle.std.specs.Prelude.{pos}
 use Rattle.std.proofs.lemmas.Result.{IfOk-weaker}
-use Rattle.scattering.specs.Series.{absolute}
 use Rattle.trunc_series.specs.Worked.{line_terms}
 use Rattle.trunc_series.proofs.Unique.{majorant-terms, line-majorant}
 use Rattle.trunc_series.proofs.tests.majorant.Goals as goal

@@ -5,7 +5,9 @@ use Rattle.std.proofs.lemmas.Int.{ints, to_z-of_z}
 use Rattle.scattering.specs.Series.{Sum, power, mass_to}
 use Rattle.trunc_series.specs.Shown.{sum_of, majorant_power}
 use Rattle.trunc_series.proofs.Exact.{Made, own}
+use Rattle.trunc_series.proofs.Products.{near-keys}
 use Rattle.trunc_series.proofs.PowerLaws.{rest-tame}
+use Rattle.trunc_series.proofs.PowersNear.{tame-powers}
 use Rattle.trunc_series.proofs.Inverses.{made-power, power-positive, power-negative}
 use Rattle.trunc_series.proofs.series.Series.power.Goals as goal
 use Rattle.trunc_series.proofs.series.Series.power.Goals.{then-n-lt0+in_ok-terms, else-n-lt0+in_ok-terms-2}
@@ -13,8 +15,13 @@ use Rattle.trunc_series.proofs.series.Series.power.Goals.{then-n-lt0+in_ok-terms
 pub powered-requires-clause-reduced : goal.powered-requires-clause-reduced
 powered-requires-clause-reduced c = rw c.as_slice-f.ensures.value (own c.self.inside.order (sum_of c.self.inside.terms.items) c.self.invariant.series c.self.invariant.small)
 
-pub powered-requires-clause-tame : goal.powered-requires-clause-tame
-powered-requires-clause-tame c = rw c.as_slice-f.ensures.value (rest-tame (sum_of c.self.inside.terms.items) (rw (← c.self.view_is) at c.requires.near) (rw (← c.self.view_is) at c.requires.others))
+pub powered-requires-clause-near : goal.powered-requires-clause-near
+powered-requires-clause-near c = rw c.as_slice-f.ensures.value (near-keys (sum_of c.self.inside.terms.items) (rw (← c.self.view_is) at c.requires.near))
+
+pub powered-requires-clause-powers : goal.powered-requires-clause-powers
+powered-requires-clause-powers c =
+    rw c.as_slice-f.ensures.value
+    (tame-powers c.self.inside.order (sum_of c.self.inside.terms.items) _ c.self.invariant.order (rest-tame (sum_of c.self.inside.terms.items) (rw (← c.self.view_is) at c.requires.near) (rw (← c.self.view_is) at c.requires.others)))
 
 made : (c : goal.After-result-1) → Made c.self.inside.order (sum_of c.if-n-lt0.terms.items) (power c.self.inside.order (sum_of c.self.inside.terms.items) c.args.n)
 made c =
