@@ -1,18 +1,16 @@
 -- Parts of factors are factors, and the steps of the program's products.
-use Rattle.std.proofs.Common.{◌≡◌, ◌≢◌, ℕ, ◌+◌, ◌-◌, ◌<◌, ◌≤◌, refl, sym, ap, ◌∙◌, Bool, true, false, cond, List, [], ◌∷◌, ◌++◌, length, drop, arith}
-use Rattle.std.specs.Prelude.{ℤ, pos, ◌*ℤ◌, filter}
+use Rattle.std.proofs.Common.{◌≡◌, ℕ, ◌+◌, ◌-◌, ◌<◌, ◌≤◌, refl, sym, ap, ◌∙◌, Bool, true, false, cond, List, [], ◌∷◌, ◌++◌, length, drop, arith}
+use Rattle.std.specs.Prelude.{ℤ, ◌*ℤ◌, filter}
 use Rattle.std.proofs.lemmas.List.{drop_all, append-nil}
-use Rattle.std.proofs.lemmas.Int.{ints}
 use Rattle.scattering.specs.Collections.{Every, EveryPair}
-use Rattle.scattering.specs.Series.{Term, Sum, degree, int_eq, key_mul, cut}
+use Rattle.scattering.specs.Series.{Term, Sum, degree, key_mul, cut}
 use Rattle.trunc_series.specs.declared.key.Key.{Key as CodeKey}
 use Rattle.trunc_series.specs.declared.arithmetic.Arithmetic.{Arithmetic}
 use Rattle.trunc_series.specs.Shown.{key_of, term_of, sum_of}
 use Rattle.trunc_series.specs.Arithmetic.{kept}
-use Rattle.trunc_series.specs.Reduced.{IsReduced, IsFactor, PairsFit, pairs}
+use Rattle.trunc_series.specs.Reduced.{unless_zero, IsReduced, IsFactor, PairsFit, pairs}
 use Rattle.trunc_series.proofs.Coefficients.{Every-weaker, Every-left, Every-right}
-use Rattle.trunc_series.proofs.Terms.{at, sum_of-drop, sum_of-push}
-use Rattle.trunc_series.proofs.Merging.{add_term}
+use Rattle.trunc_series.proofs.Terms.{at, sum_of-drop, sum_of-unless_zero}
 use Rattle.trunc_series.proofs.Exact.{low-cut}
 use Rattle.trunc_series.proofs.Rows.{row_of, row_sum, level, level-degree, Every-filter}
 
@@ -57,23 +55,9 @@ module _ (rule : Arithmetic) where
 
   -- ---- a row
 
-  pub row-step : (t : Term) (out b : List (CodeKey × ℤ)) (i : ℕ) (z : CodeKey) (c : ℤ) → i < length b → key_of z ≡ key_mul t.0 (key_of (at b i).0) → c ≡ kept rule (t.1 *ℤ (at b i).1) → c ≢ pos 0
-      → sum_of (out ++ (z, c) ∷ []) ++ row_of rule t (sum_of (drop (i + 1) b)) ≡ sum_of out ++ row_of rule t (sum_of (drop i b))
-  row-step t out b i z c h e f n = sum_of-push out (z, c) _ ∙ ap (λ r. sum_of out ++ r) (sym (ap (row_of rule t) (sum_of-drop b i h) ∙ ap2 ∙ go (int_eq c (pos 0)) refl))
-    where
-      rest : Sum
-      rest = row_of rule t (sum_of (drop (i + 1) b))
-
-      ap2 : add_term rule (key_mul t.0 (key_of (at b i).0), kept rule (t.1 *ℤ (at b i).1)) (row_of rule t (sum_of (drop (i + 1) b))) ≡ cond (int_eq c (pos 0)) (row_of rule t (sum_of (drop (i + 1) b))) ((key_of z, c) ∷ row_of rule t (sum_of (drop (i + 1) b)))
-      ap2 = rw (f, e) refl
-
-      go : (d : Bool) → int_eq c (pos 0) ≡ d → cond d (row_of rule t (sum_of (drop (i + 1) b))) ((key_of z, c) ∷ row_of rule t (sum_of (drop (i + 1) b))) ≡ (key_of z, c) ∷ row_of rule t (sum_of (drop (i + 1) b))
-      go true q = absurd (n (grind (arith, ints)))
-      go false q = refl
-
-  pub row-gone : (t : Term) (out b : List (CodeKey × ℤ)) (i : ℕ) (c : ℤ) → i < length b → c ≡ kept rule (t.1 *ℤ (at b i).1) → c ≡ pos 0
-      → sum_of out ++ row_of rule t (sum_of (drop (i + 1) b)) ≡ sum_of out ++ row_of rule t (sum_of (drop i b))
-  row-gone t out b i c h f z = ap (λ r. sum_of out ++ r) (sym (ap (row_of rule t) (sum_of-drop b i h) ∙ rw (← f, z) refl))
+  pub row-step : (t : Term) (out b : List (CodeKey × ℤ)) (i : ℕ) (z : CodeKey) (c : ℤ) → i < length b → key_of z ≡ key_mul t.0 (key_of (at b i).0) → c ≡ kept rule (t.1 *ℤ (at b i).1)
+      → sum_of (out ++ unless_zero (z, c)) ++ row_of rule t (sum_of (drop (i + 1) b)) ≡ sum_of out ++ row_of rule t (sum_of (drop i b))
+  row-step t out b i z c h e f = sum_of-unless_zero out (z, c) _ ∙ ap (λ r. sum_of out ++ r) (sym (ap (row_of rule t) (sum_of-drop b i h) ∙ rw (f, e) refl))
 
   pub row-done : (t : Term) (out b : List (CodeKey × ℤ)) (i : ℕ) → length b ≤ i → sum_of out ++ row_of rule t (sum_of (drop i b)) ≡ row_of rule t (sum_of b) → sum_of out ≡ row_of rule t (sum_of b)
   row-done t out b i h e = sym (append-nil (sum_of out)) ∙ ap (λ r. sum_of out ++ row_of rule t (sum_of r)) (sym (drop_all i b h)) ∙ e

@@ -1,8 +1,7 @@
 -- The steps of the program's merge, over lists of its terms.
-use Rattle.std.proofs.Common.{◌≡◌, ◌≢◌, ℕ, ◌+◌, ◌<◌, ◌≤◌, refl, sym, subst, ap, ◌∙◌, Bool, true, false, cond, List, [], ◌∷◌, ◌++◌, length, get_or, take, drop, ◌-◌, add-one, drop-cons, arith, zero, suc, append_assoc, ◌⊎◌, inl, inr}
+use Rattle.std.proofs.Common.{◌≡◌, ℕ, ◌+◌, ◌<◌, ◌≤◌, refl, sym, subst, ap, ◌∙◌, Bool, true, false, cond, List, [], ◌∷◌, ◌++◌, length, get_or, take, drop, ◌-◌, add-one, drop-cons, arith, zero, suc, append_assoc, ◌⊎◌, inl, inr}
 use Rattle.std.specs.Prelude.{ℤ, pos, ◌+ℤ◌, ◌==◌, not, IsTrue}
 use Rattle.std.proofs.lemmas.List.{drop_all, take-append-drop, take_rest, append-nil}
-use Rattle.std.proofs.lemmas.Int.{ints}
 use Rattle.std.proofs.Math.Decide.{dec_le}
 use Rattle.std.specs.Ordering.{ordering_index}
 use Rattle.std.specs.declared.cmp.Ordering.{Ordering}
@@ -13,7 +12,7 @@ use Rattle.trunc_series.specs.declared.key.Key.{Key as CodeKey}
 use Rattle.trunc_series.specs.declared.arithmetic.Arithmetic.{Arithmetic}
 use Rattle.trunc_series.specs.Shown.{key_of, term_of, sum_of}
 use Rattle.trunc_series.specs.Arithmetic.{kept}
-use Rattle.trunc_series.specs.Reduced.{key_order}
+use Rattle.trunc_series.specs.Reduced.{unless_zero, key_order}
 use Rattle.trunc_series.proofs.Order.{key_before-trans}
 use Rattle.trunc_series.proofs.Coefficients.{Every-weaker}
 use Rattle.trunc_series.proofs.Merging.{merge, merge-nil}
@@ -66,6 +65,13 @@ module _ (rule : Arithmetic) (t u : Term) (f g : Sum) where
   merge-equal : key_order t.0 u.0 ≡ Equal → (c : ℤ) → c ≡ kept rule (t.1 +ℤ u.1) → merge rule (t ∷ f) (u ∷ g) ≡ cond (int_eq c (pos 0)) (merge rule f g) ((t.0, c) ∷ merge rule f g)
   merge-equal e c k = let s = is-equal _ _ e in rw (k, s.0, s.1) refl
 
+pub sum_of-unless_zero : (out : List (CodeKey × ℤ)) (t : CodeKey × ℤ) (r : Sum) → sum_of (out ++ unless_zero t) ++ r ≡ sum_of out ++ cond (int_eq t.1 (pos 0)) r (term_of t ∷ r)
+sum_of-unless_zero out t r = go (int_eq t.1 (pos 0))
+  where
+    go : (d : Bool) → sum_of (out ++ cond d [] (t ∷ [])) ++ r ≡ sum_of out ++ cond d r (term_of t ∷ r)
+    go true = ap (λ xs. sum_of xs ++ r) (append-nil out)
+    go false = sum_of-push out t r
+
 -- ---- the steps of the loop
 
 module _ (rule : Arithmetic) (out a b : List (CodeKey × ℤ)) (i j : ℕ) (h : i < length a) (k : j < length b) where
@@ -90,16 +96,8 @@ module _ (rule : Arithmetic) (out a b : List (CodeKey × ℤ)) (i j : ℕ) (h : 
     both : merge rule (sum_of (drop i a)) (sum_of (drop j b)) ≡ cond (int_eq c (pos 0)) (merge rule (sum_of (drop (i + 1) a)) (sum_of (drop (j + 1) b))) ((key_of (at a i).0, c) ∷ merge rule (sum_of (drop (i + 1) a)) (sum_of (drop (j + 1) b)))
     both = rw (sum_of-drop a i h, sum_of-drop b j k) (merge-equal rule (term_of (at a i)) (term_of (at b j)) _ _ e c s)
 
-    pub step-equal : c ≢ pos 0 → sum_of (out ++ ((at a i).0, c) ∷ []) ++ merge rule (sum_of (drop (i + 1) a)) (sum_of (drop (j + 1) b)) ≡ sum_of out ++ merge rule (sum_of (drop i a)) (sum_of (drop j b))
-    step-equal n = sum_of-push out ((at a i).0, c) _ ∙ ap (λ r. sum_of out ++ r) (go (int_eq c (pos 0)) refl both)
-      where
-        go : (d : Bool) → int_eq c (pos 0) ≡ d → merge rule (sum_of (drop i a)) (sum_of (drop j b)) ≡ cond d (merge rule (sum_of (drop (i + 1) a)) (sum_of (drop (j + 1) b))) ((key_of (at a i).0, c) ∷ merge rule (sum_of (drop (i + 1) a)) (sum_of (drop (j + 1) b)))
-            → (key_of (at a i).0, c) ∷ merge rule (sum_of (drop (i + 1) a)) (sum_of (drop (j + 1) b)) ≡ merge rule (sum_of (drop i a)) (sum_of (drop j b))
-        go true q r = absurd (n (grind (arith, ints)))
-        go false q r = sym r
-
-    pub step-gone : c ≡ pos 0 → sum_of out ++ merge rule (sum_of (drop (i + 1) a)) (sum_of (drop (j + 1) b)) ≡ sum_of out ++ merge rule (sum_of (drop i a)) (sum_of (drop j b))
-    step-gone z = ap (λ r. sum_of out ++ r) (sym (both ∙ rw z refl))
+    pub step-equal : sum_of (out ++ unless_zero ((at a i).0, c)) ++ merge rule (sum_of (drop (i + 1) a)) (sum_of (drop (j + 1) b)) ≡ sum_of out ++ merge rule (sum_of (drop i a)) (sum_of (drop j b))
+    step-equal = sum_of-unless_zero out ((at a i).0, c) _ ∙ ap (λ r. sum_of out ++ r) (sym both)
 
 pub merge-ended : (rule : Arithmetic) (out a b : List (CodeKey × ℤ)) (i j : ℕ) → (length a ≤ i) ⊎ (length b ≤ j)
     → sum_of ((out ++ take (length a - i) (drop i a)) ++ take (length b - j) (drop j b)) ≡ sum_of out ++ merge rule (sum_of (drop i a)) (sum_of (drop j b))

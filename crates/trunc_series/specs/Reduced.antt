@@ -1,10 +1,11 @@
 -- A sorted list of terms that stands for a sum, as the crate's own functions hand it on.
-use Rattle.std.specs.Prelude.{◌≡◌, ℕ, ◌+◌, ◌*◌, ◌<◌, ◌≤◌, ◌^◌, cond, pos, nat_abs, IsTrue, map, flat_map}
+use Rattle.std.specs.Prelude.{◌≡◌, ℕ, ◌+◌, ◌*◌, ◌<◌, ◌≤◌, ◌^◌, cond, pos, nat_abs, IsTrue, ℤ, List, [], ◌∷◌, map, flat_map}
 use Rattle.std.specs.declared.cmp.Ordering.{Ordering}
 use Rattle.std.specs.declared.cmp.Ordering.TheVariants.{Less, Equal, Greater}
 use Rattle.scattering.specs.Collections.{Every, EveryPair}
-use Rattle.scattering.specs.Series.{Key, Sum, IsSeries, key_before, coef, degree, pow, term_mul}
+use Rattle.scattering.specs.Series.{Key, Sum, IsSeries, int_eq, key_before, coef, degree, pow, term_mul}
 use Rattle.trunc_series.specs.declared.arithmetic.Arithmetic.{Arithmetic}
+use Rattle.trunc_series.specs.declared.key.Key.{Key as CodeKey}
 use Rattle.trunc_series.specs.declared.arithmetic.Arithmetic.TheVariants.{Saturating}
 use Rattle.trunc_series.specs.Arithmetic.{kept, IsKeepable}
 
@@ -18,6 +19,10 @@ pub record IsReduced (rule : Arithmetic) (n : ℕ) (f g : Sum) : Type 0 where
   pub keeps : Every (λ t. (kept rule t.1 ≡ t.1) × IsKeepable rule t.1) f
   pub keepable : Every (λ t. IsKeepable rule t.1) g
   pub same : (k : Key) → kept rule (coef f k) ≡ kept rule (coef g k)
+
+-- a term, or none where its coefficient is 0
+abbrev pub unless_zero : CodeKey × ℤ → List (CodeKey × ℤ)
+unless_zero t = cond (int_eq t.1 (pos 0)) [] (t ∷ [])
 
 -- an exponent that can be added to another in an i32
 abbrev pub IsNearKey : Key → Type 0

@@ -1,17 +1,27 @@
 // Sorted lists of terms made from lists of terms: like terms added, none with coefficient 0.
 
-ghost use Rattle.std.specs.Prelude.{◌++◌, ℕ, IfOk, IsTrue, filter, nat_le, ◌≡◌};
+ghost use Rattle.std.specs.Prelude.{◌++◌, ℕ, IfOk, OnOk, IsTrue, filter, nat_le, ◌≡◌};
 ghost use Rattle.scattering.specs.Collections.{Every, EveryPair};
 ghost use Rattle.scattering.specs.Series.{Sum, key_before, degree};
 ghost use Rattle.trunc_series.specs.Shown.{key_of, sum_of, IsTerm};
 ghost use Rattle.trunc_series.specs.Arithmetic.{IsKeepable};
-ghost use Rattle.trunc_series.specs.Reduced.{IsReduced, absolute_sum};
+ghost use Rattle.trunc_series.specs.Reduced.{IsReduced, absolute_sum, unless_zero};
 
 use crate::Key;
 use crate::arithmetic::{Arithmetic, absolute, sum};
 use crate::key::compare;
 use std::alloc::{AllocError, Global};
 use std::cmp::Ordering;
+
+/// Appends a term, unless its coefficient is 0.
+pub fn push_nonzero(out: &mut Vec<(Key, i128)>, key: Key, c: i128) -> Result<(), AllocError>
+    ensures { OnOk result (out.new.items ≡ out.old.items ++ unless_zero (key, c)) }
+{
+    if c != 0 {
+        out.push((key, c))?;
+    }
+    Ok(())
+}
 
 /// The terms of two sorted lists as one.
 pub fn merged(
@@ -41,9 +51,7 @@ pub fn merged(
             }
             Ordering::Equal => {
                 let c = sum(rule, &x.1, &y.1);
-                if c != 0 {
-                    out.push((x.0, c))?;
-                }
+                push_nonzero(&mut out, x.0, c)?;
                 i += 1;
                 j += 1;
             }

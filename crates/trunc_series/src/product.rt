@@ -12,7 +12,7 @@ ghost use Rattle.trunc_series.specs.Reduced.{IsReduced, IsFactor, IsNearKey, Pai
 use crate::Key;
 use crate::arithmetic::{Arithmetic, product};
 use crate::key::times;
-use crate::merge::{low_terms, merged};
+use crate::merge::{low_terms, merged, push_nonzero};
 use std::alloc::{AllocError, Global};
 
 /// One term times a list.
@@ -31,9 +31,7 @@ pub fn row(
     let mut out = Vec::with_capacity(alloc, b.len())?;
     for u in b {
         let c = product(rule, &t.1, &u.1);
-        if c != 0 {
-            out.push((times(&t.0, &u.0), c))?;
-        }
+        push_nonzero(&mut out, times(&t.0, &u.0), c)?;
     }
     Ok(out)
 }

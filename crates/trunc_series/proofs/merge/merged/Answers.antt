@@ -1,12 +1,12 @@
-use Rattle.std.proofs.Common.{rules, arith, ap, FitsSigned, to_z, of_z, length, ◌<◌, ◌≤◌, sym, ◌∙◌, inl, inr, ◌⊎◌}
+use Rattle.std.proofs.Common.{rules, arith, FitsSigned, length, ◌<◌, ◌≤◌, sym, ◌∙◌, inl, inr, ◌⊎◌}
 use Rattle.trunc_series.proofs.Merging.{merge-reduced}
-use Rattle.trunc_series.proofs.Terms.{Every-at, step-less, step-greater, step-equal, step-gone, merge-ended}
+use Rattle.trunc_series.proofs.Terms.{Every-at, step-less, step-greater, step-equal, merge-ended}
 use Rattle.std.proofs.lemmas.Int.{to_z-of_z}
 use mir.Syntax.{w128}
 use Rattle.trunc_series.specs.Shown.{sum_of}
 use Rattle.trunc_series.specs.Arithmetic.{IsKeepable}
 use Rattle.trunc_series.proofs.merge.merged.Goals as goal
-use Rattle.trunc_series.proofs.merge.merged.Goals.{then-c-ne0+in_ok-push-in-Equal, else-c-ne0, then-merge-test+else-j-b, else-merge-test}
+use Rattle.trunc_series.proofs.merge.merged.Goals.{then-merge-test+else-j-b, else-merge-test}
 
 pub merge-preserved-in-Less : goal.merge-preserved-in-Less
 merge-preserved-in-Less c =
@@ -39,18 +39,11 @@ merge-preserved c =
     let h : c.merge.i < length c.args.a.now = omega arith in
     let k : c.merge.j < length c.args.b.now = omega arith in
     let f : FitsSigned w128 c.sum-c.result = search rules in
-    elim c.if-c-ne0.branch [
-      | then-c-ne0+in_ok-push-in-Equal w ↦ record {
-        in_a = omega arith;
-        in_b = omega arith;
-        done = rw (w.out-is, w.in_ok-push-in-Equal.ensures.items) (step-equal c.args.rule c.merge.out.items c.args.a.now c.args.b.now c.merge.i c.merge.j h k (sym c.in-Equal.ensures) _ (to_z-of_z w128 c.sum-c.result f ∙ c.sum-c.ensures) (λ z. w.if-c-ne0.true (ap (of_z w128) (sym (to_z-of_z w128 c.sum-c.result f) ∙ z))) ∙ c.merge.invariant.done);
-      }
-      | else-c-ne0 w ↦ record {
-        in_a = omega arith;
-        in_b = omega arith;
-        done = rw w.out-is (step-gone c.args.rule c.merge.out.items c.args.a.now c.args.b.now c.merge.i c.merge.j h k (sym c.in-Equal.ensures) _ c.sum-c.ensures (sym (to_z-of_z w128 c.sum-c.result f) ∙ ap (to_z w128) w.if-c-ne0.false) ∙ c.merge.invariant.done);
-      }
-    ]
+    record {
+      in_a = omega arith;
+      in_b = omega arith;
+      done = rw (c.in_ok-push_nonzero-in-Equal.ensures, to_z-of_z w128 c.sum-c.result f) (step-equal c.args.rule c.merge.out.items c.args.a.now c.args.b.now c.merge.i c.merge.j h k (sym c.in-Equal.ensures) _ c.sum-c.ensures ∙ c.merge.invariant.done);
+    }
 
 pub returns : goal.returns
 returns c n f g p q =
