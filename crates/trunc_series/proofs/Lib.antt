@@ -16,3 +16,5 @@ pub mod Associate
 pub mod PowerLaws
 pub mod Inverses
 pub mod Unique
+pub mod RingLaws
+pub mod InverseLaws

@@ -59,7 +59,7 @@ cut-low : (n : ℕ) (g : Sum) → Every (λ t. degree t.0 ≤ n) g → cut n g �
 cut-low n [] h = refl
 cut-low n (t ∷ g) h = rw (le-leb (degree t.0) n h.0) (ap (λ r. t ∷ r) (cut-low n g h.1))
 
-mul-one : (n : ℕ) (g : Sum) → Every (λ t. degree t.0 ≤ n) g → mul n one g ≡ g
+pub mul-one : (n : ℕ) (g : Sum) → Every (λ t. degree t.0 ≤ n) g → mul n one g ≡ g
 mul-one n g h = append-nil (cut n (row_sum (unit, pos 1) g)) ∙ ap (cut n) (unit-row g) ∙ cut-low n g h
 
 -- ---- powers

@@ -1,0 +1,25 @@
+// The laws of a commutative ring, of series of one order.
+
+ghost use Rattle.trunc_series.specs.Laws.{SeriesIsDetermined, AdditionCommutes, AdditionIsAssociative, ZeroIsNeutral, NegativeCancels, MultiplicationCommutes, MultiplicationIsAssociative, OneIsNeutral, MultiplicationDistributes, ExponentsAdd, InverseCancels, SignedExponentsAdd, AdditionKeepsSame, MultiplicationKeepsSame, PowersKeepSame};
+
+/// Series of one order are a commutative ring, modulo terms of degree above the order.
+///
+/// A series is determined by its order and the coefficients of the sum that a contract names for it. So
+/// results whose sums have the same coefficients are equal, and each law of sums is one of results.
+pub fn series_are_a_ring()
+    ensures determined { SeriesIsDetermined }
+    ensures addition_commutes { AdditionCommutes }
+    ensures addition_is_associative { AdditionIsAssociative }
+    ensures zero_is_neutral { ZeroIsNeutral }
+    ensures negative_cancels { NegativeCancels }
+    ensures multiplication_commutes { MultiplicationCommutes }
+    ensures multiplication_is_associative { MultiplicationIsAssociative }
+    ensures one_is_neutral { OneIsNeutral }
+    ensures multiplication_distributes { MultiplicationDistributes }
+    ensures exponents_add { ExponentsAdd }
+    ensures inverse_cancels { InverseCancels }
+    ensures signed_exponents_add { SignedExponentsAdd }
+    ensures addition_keeps_same { AdditionKeepsSame }
+    ensures multiplication_keeps_same { MultiplicationKeepsSame }
+    ensures powers_keep_same { PowersKeepSame }
+{}
