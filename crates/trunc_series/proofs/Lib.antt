@@ -18,3 +18,4 @@ pub mod Inverses
 pub mod Unique
 pub mod RingLaws
 pub mod InverseLaws
+pub mod BoundLaws

@@ -108,7 +108,7 @@ rest-tame (t ∷ f) h r = go (key_eq t.0 unit) refl r (rest-tame f h.1)
     go true e s i = (subst IsTame (sym (key_eq-same t.0 unit e)) (omega arith, omega arith), i s)
     go false e s i = let d = s.0 in let p = h.0.0 in let q = h.0.1 in ((omega (arith, d), omega (arith, d)), i s.1)
 
-key-from : (P : Key → Type 0) (f : Sum) (k : Key) → Every (λ t. P t.0) f → coef f k ≢ pos 0 → P k
+pub key-from : (P : Key → Type 0) (f : Sum) (k : Key) → Every (λ t. P t.0) f → coef f k ≢ pos 0 → P k
 key-from P [] k h n = absurd (n refl)
 key-from P (t ∷ f) k h n = go (key_eq t.0 k) refl (key-from P f k h.1)
   where
@@ -116,7 +116,7 @@ key-from P (t ∷ f) k h n = go (key_eq t.0 k) refl (key-from P f k h.1)
     go true e i = subst P (key_eq-same t.0 k e) h.0
     go false e i = i (λ z. n (rw (e, z) refl))
 
-each-own : (f : Sum) → EveryPair (λ t u. IsTrue (key_before t.0 u.0)) f → Every (λ t. coef f t.0 ≡ t.1) f
+pub each-own : (f : Sum) → EveryPair (λ t u. IsTrue (key_before t.0 u.0)) f → Every (λ t. coef f t.0 ≡ t.1) f
 each-own [] r = tt
 each-own (t ∷ f) r =
     (rw (key_eq-refl t.0, coef-none f t.0 (Every-weaker (λ (u : Term). IsTrue (key_before t.0 u.0)) (λ u. key_eq u.0 t.0 ≡ false) f (λ u b. apart t.0 u.0 b) r.0)) (add-zero t.1), go f r.0 (each-own f r.1))

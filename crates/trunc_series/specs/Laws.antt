@@ -1,10 +1,10 @@
--- What is proved here of sums, and of series of one order n.
+-- What is proved here of sums, and of series of one order n: the laws of a commutative ring, and how bounds carry over.
 -- Sums are compared by their coefficients; products and powers are modulo degree n + 1. An operation's result is a series of
 -- the sum that its contract names, so by `SeriesIsDetermined` each law of sums is one of results, as equal series.
-use Rattle.std.specs.Prelude.{◌≡◌, ℕ, ◌+◌, ◌≤◌, [], ◌++◌, ℤ, pos, ◌+ℤ◌}
+use Rattle.std.specs.Prelude.{◌≡◌, ℕ, ◌+◌, ◌*◌, ◌≤◌, [], ◌++◌, ℤ, pos, ◌+ℤ◌}
 use Rattle.scattering.specs.Collections.{Every}
-use Rattle.scattering.specs.Series.{Sum, IsSeries, Same, degree, coef, unit, rest, one, minus, inverse, mul, pow, power}
-use Rattle.trunc_series.specs.Shown.{Seen, IsSeriesOf}
+use Rattle.scattering.specs.Series.{Sum, IsSeries, Same, degree, coef, unit, rest, one, minus, absolute, inverse, mul, pow, power, mass_to}
+use Rattle.trunc_series.specs.Shown.{Seen, IsSeriesOf, IsNear}
 
 -- ---- series
 
@@ -65,3 +65,21 @@ MultiplicationKeepsSame = (n : ℕ) (f f' g g' : Sum) → Same f f' → Same g g
 
 abbrev pub PowersKeepSame : Type 0
 PowersKeepSame = (n : ℕ) (f f' : Sum) (i : ℕ) → Same f f' → Same (pow n f i) (pow n f' i)
+
+-- ---- what is known of a series by the sum that it stands for, as the conditions of operations ask
+
+abbrev pub SeriesHasLeastMass : Type 0
+SeriesHasLeastMass = (s : Seen) (n : ℕ) (f : Sum) → IsSeriesOf s n f → mass_to n s.terms ≤ mass_to n f
+
+abbrev pub SeriesStaysNear : Type 0
+SeriesStaysNear = (s : Seen) (n : ℕ) (f : Sum) → IsSeriesOf s n f → IsNear f → IsNear s.terms
+
+abbrev pub SumsStayNear : Type 0
+SumsStayNear = (f g : Sum) → IsNear f → IsNear g → IsNear (f ++ g)
+
+abbrev pub MassesAdd : Type 0
+MassesAdd = (n : ℕ) (f g : Sum) → mass_to n (f ++ g) ≡ mass_to n f + mass_to n g
+
+-- the mass of a product's majorant is at most the product of the masses
+abbrev pub MassesMultiply : Type 0
+MassesMultiply = (n : ℕ) (f g : Sum) → mass_to n (mul n (absolute f) (absolute g)) ≤ mass_to n f * mass_to n g

@@ -1,6 +1,6 @@
-// The laws of a commutative ring, of series of one order.
+// The laws of series of one order: of a commutative ring, and of the bounds that operations ask for.
 
-ghost use Rattle.trunc_series.specs.Laws.{SeriesIsDetermined, AdditionCommutes, AdditionIsAssociative, ZeroIsNeutral, NegativeCancels, MultiplicationCommutes, MultiplicationIsAssociative, OneIsNeutral, MultiplicationDistributes, ExponentsAdd, InverseCancels, SignedExponentsAdd, AdditionKeepsSame, MultiplicationKeepsSame, PowersKeepSame};
+ghost use Rattle.trunc_series.specs.Laws.{SeriesIsDetermined, AdditionCommutes, AdditionIsAssociative, ZeroIsNeutral, NegativeCancels, MultiplicationCommutes, MultiplicationIsAssociative, OneIsNeutral, MultiplicationDistributes, ExponentsAdd, InverseCancels, SignedExponentsAdd, AdditionKeepsSame, MultiplicationKeepsSame, PowersKeepSame, SeriesHasLeastMass, SeriesStaysNear, SumsStayNear, MassesAdd, MassesMultiply};
 
 /// Series of one order are a commutative ring, modulo terms of degree above the order.
 ///
@@ -22,4 +22,16 @@ pub fn series_are_a_ring()
     ensures addition_keeps_same { AdditionKeepsSame }
     ensures multiplication_keeps_same { MultiplicationKeepsSame }
     ensures powers_keep_same { PowersKeepSame }
+{}
+
+/// How the conditions of sums and products follow from bounds on their operands.
+///
+/// The mass of a sum is at most the sum of the masses, that of a product at most their product, and the
+/// exponents of a series are among those of the sum that it stands for.
+pub fn bounds_carry_over()
+    ensures series_has_least_mass { SeriesHasLeastMass }
+    ensures series_stays_near { SeriesStaysNear }
+    ensures sums_stay_near { SumsStayNear }
+    ensures masses_add { MassesAdd }
+    ensures masses_multiply { MassesMultiply }
 {}
