@@ -4,7 +4,7 @@
 
 mod factor;
 
-ghost use Rattle.std.specs.Prelude.{◌≡◌};
+ghost use Rattle.std.specs.Prelude.{IfOk};
 ghost use Rattle.scattering.specs.Series.{mul};
 ghost use Rattle.trunc_series.specs.Shown.{IsSeriesOf};
 ghost use Rattle.series_bench.specs.Factor.{IsPart};
@@ -18,6 +18,7 @@ use trunc_series::{Series, bounds_carry_over};
 fn product(f: &Series, g: &Series) -> Result<Series, AllocError>
     requires left { IsPart 2000 f.now }
     requires right { IsPart 2000 g.now }
+    ensures { IfOk result (λ h. IsSeriesOf h f.now.order (mul f.now.order f.now.terms g.now.terms)) }
 {
     bounds_carry_over();
     f.mul(g)

@@ -1,11 +1,11 @@
 -- Bounds of a series by the sum that it stands for, and of a product's mass by the masses of its factors.
-use Rattle.std.proofs.Common.{◌≡◌, ◌≢◌, ℕ, ◌+◌, ◌*◌, ◌≤◌, ◌^◌, refl, sym, subst, ap, ◌∙◌, Bool, true, false, cond, [], ◌∷◌, ◌++◌, arith, zero-add}
+use Rattle.std.proofs.Common.{◌≡◌, ◌≢◌, ℕ, ◌+◌, ◌*◌, ◌≤◌, ◌^◌, refl, sym, ◌∙◌, Bool, true, false, cond, [], ◌∷◌, arith, zero-add}
 use Rattle.std.specs.Prelude.{pos, nat_abs, nat_le}
 use Rattle.std.proofs.lemmas.Int.{unsigned_abs-mul}
 use Rattle.std.proofs.Math.Nat.{mul-le-mul_left}
 use Rattle.scattering.specs.Collections.{Every}
-use Rattle.scattering.specs.Series.{Key, Term, Sum, degree, key_mul, term_mul, coef, cut, mul, mass_to, absolute}
-use Rattle.trunc_series.specs.Shown.{Seen, IsSeriesOf, IsNear}
+use Rattle.scattering.specs.Series.{Key, Term, Sum, degree, key_mul, term_mul, coef, cut, mul, mass_to}
+use Rattle.trunc_series.specs.Shown.{IsNear}
 use Rattle.trunc_series.specs.Laws.{SeriesHasLeastMass, SeriesStaysNear, SumsStayNear, MassesMultiply}
 use Rattle.trunc_series.proofs.Coefficients.{Every-append}
 use Rattle.trunc_series.proofs.Mass.{mass-series}
