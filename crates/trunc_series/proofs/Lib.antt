@@ -17,3 +17,6 @@ pub mod PowerLaws
 pub mod PowersNear
 pub mod Inverses
 pub mod Unique
+pub mod RingLaws
+pub mod InverseLaws
+pub mod BoundLaws

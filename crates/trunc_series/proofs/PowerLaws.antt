@@ -59,7 +59,7 @@ cut-low : (n : ℕ) (g : Sum) → Every (λ t. degree t.0 ≤ n) g → cut n g �
 cut-low n [] h = refl
 cut-low n (t ∷ g) h = rw (le-leb (degree t.0) n h.0) (ap (λ r. t ∷ r) (cut-low n g h.1))
 
-mul-one : (n : ℕ) (g : Sum) → Every (λ t. degree t.0 ≤ n) g → mul n one g ≡ g
+pub mul-one : (n : ℕ) (g : Sum) → Every (λ t. degree t.0 ≤ n) g → mul n one g ≡ g
 mul-one n g h = append-nil (cut n (row_sum (unit, pos 1) g)) ∙ ap (cut n) (unit-row g) ∙ cut-low n g h
 
 -- ---- powers
@@ -105,7 +105,7 @@ rest-tame (t ∷ f) h r = go (key_eq t.0 unit) refl r (rest-tame f h.1)
     go true e s i = (subst IsTame (sym (key_eq-same t.0 unit e)) (omega arith, omega arith), i s)
     go false e s i = let d = s.0 in let p = h.0.0 in let q = h.0.1 in ((omega (arith, d), omega (arith, d)), i s.1)
 
-key-from : (P : Key → Type 0) (f : Sum) (k : Key) → Every (λ t. P t.0) f → coef f k ≢ pos 0 → P k
+pub key-from : (P : Key → Type 0) (f : Sum) (k : Key) → Every (λ t. P t.0) f → coef f k ≢ pos 0 → P k
 key-from P [] k h n = absurd (n refl)
 key-from P (t ∷ f) k h n = go (key_eq t.0 k) refl (key-from P f k h.1)
   where

@@ -12,7 +12,7 @@ use Rattle.trunc_series.proofs.Coefficients.{Every-weaker, Every-append, abs-coe
 use Rattle.trunc_series.proofs.Rows.{row_sum}
 use Rattle.trunc_series.proofs.Exact.{Made, exact, low-cut}
 
-mass-append : (n : ℕ) (f g : Sum) → mass_to n (f ++ g) ≡ mass_to n f + mass_to n g
+pub mass-append : (n : ℕ) (f g : Sum) → mass_to n (f ++ g) ≡ mass_to n f + mass_to n g
 mass-append n [] g = omega arith
 mass-append n (t ∷ f) g = omega (arith, mass-append n f g)
 

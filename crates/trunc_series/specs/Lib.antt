@@ -3,3 +3,4 @@ pub mod Arithmetic
 pub mod Reduced
 pub mod Capped
 pub mod Worked
+pub mod Laws

@@ -5,6 +5,7 @@
 
 mod arithmetic;
 mod key;
+mod laws;
 mod majorant;
 mod merge;
 mod power;
@@ -12,6 +13,7 @@ mod product;
 mod series;
 
 pub use key::{Exp, Key};
+pub use laws::{bounds_carry_over, series_are_a_ring};
 pub use majorant::Majorant;
 pub use series::Series;
 

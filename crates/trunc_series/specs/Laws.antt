@@ -1,0 +1,85 @@
+-- What is proved here of sums, and of series of one order n: the laws of a commutative ring, and how bounds carry over.
+-- Sums are compared by their coefficients; products and powers are modulo degree n + 1. An operation's result is a series of
+-- the sum that its contract names, so by `SeriesIsDetermined` each law of sums is one of results, as equal series.
+use Rattle.std.specs.Prelude.{◌≡◌, ℕ, ◌+◌, ◌*◌, ◌≤◌, [], ◌++◌, ℤ, pos, ◌+ℤ◌}
+use Rattle.scattering.specs.Collections.{Every}
+use Rattle.scattering.specs.Series.{Sum, IsSeries, Same, degree, coef, unit, rest, one, minus, absolute, inverse, mul, pow, power, mass_to}
+use Rattle.trunc_series.specs.Shown.{Seen, IsSeriesOf, IsNear}
+
+-- ---- series
+
+-- a series is told by its order and its coefficients
+abbrev pub SeriesIsDetermined : Type 0
+SeriesIsDetermined = (s s' : Seen) (n : ℕ) (f f' : Sum) → IsSeriesOf s n f → IsSeriesOf s' n f' → Same f f' → s ≡ s'
+
+-- ---- addition
+
+abbrev pub AdditionCommutes : Type 0
+AdditionCommutes = (f g : Sum) → Same (f ++ g) (g ++ f)
+
+abbrev pub AdditionIsAssociative : Type 0
+AdditionIsAssociative = (f g h : Sum) → Same ((f ++ g) ++ h) (f ++ (g ++ h))
+
+abbrev pub ZeroIsNeutral : Type 0
+ZeroIsNeutral = (f : Sum) → Same ([] ++ f) f
+
+abbrev pub NegativeCancels : Type 0
+NegativeCancels = (f : Sum) → Same (f ++ minus f) []
+
+-- ---- multiplication
+
+abbrev pub MultiplicationCommutes : Type 0
+MultiplicationCommutes = (n : ℕ) (f g : Sum) → Same (mul n f g) (mul n g f)
+
+abbrev pub MultiplicationIsAssociative : Type 0
+MultiplicationIsAssociative = (n : ℕ) (f g h : Sum) → Same (mul n (mul n f g) h) (mul n f (mul n g h))
+
+-- of a sum without terms of degree above n, as each series of order n is
+abbrev pub OneIsNeutral : Type 0
+OneIsNeutral = (n : ℕ) (f : Sum) → Every (λ t. degree t.0 ≤ n) f → Same (mul n one f) f
+
+abbrev pub MultiplicationDistributes : Type 0
+MultiplicationDistributes = (n : ℕ) (f g h : Sum) → Same (mul n f (g ++ h)) (mul n f g ++ mul n f h)
+
+-- ---- powers
+
+abbrev pub ExponentsAdd : Type 0
+ExponentsAdd = (n : ℕ) (f : Sum) (i j : ℕ) → Same (mul n (pow n f i) (pow n f j)) (pow n f (i + j))
+
+-- 1/f, of a series that is 1 and terms of degree at least 1
+abbrev pub InverseCancels : Type 0
+InverseCancels = (n : ℕ) (f : Sum) → IsSeries n f → coef f unit ≡ pos 1 → Every (λ t. 1 ≤ degree t.0) (rest f) → Same (mul n f (inverse n f)) one
+
+-- of such a series, exponents of either sign
+abbrev pub SignedExponentsAdd : Type 0
+SignedExponentsAdd = (n : ℕ) (f : Sum) (i j : ℤ) → IsSeries n f → coef f unit ≡ pos 1 → Every (λ t. 1 ≤ degree t.0) (rest f)
+    → Same (mul n (power n f i) (power n f j)) (power n f (i +ℤ j))
+
+-- ---- sums with the same coefficients can stand for one another
+
+abbrev pub AdditionKeepsSame : Type 0
+AdditionKeepsSame = (f f' g g' : Sum) → Same f f' → Same g g' → Same (f ++ g) (f' ++ g')
+
+abbrev pub MultiplicationKeepsSame : Type 0
+MultiplicationKeepsSame = (n : ℕ) (f f' g g' : Sum) → Same f f' → Same g g' → Same (mul n f g) (mul n f' g')
+
+abbrev pub PowersKeepSame : Type 0
+PowersKeepSame = (n : ℕ) (f f' : Sum) (i : ℕ) → Same f f' → Same (pow n f i) (pow n f' i)
+
+-- ---- what is known of a series by the sum that it stands for, as the conditions of operations ask
+
+abbrev pub SeriesHasLeastMass : Type 0
+SeriesHasLeastMass = (s : Seen) (n : ℕ) (f : Sum) → IsSeriesOf s n f → mass_to n s.terms ≤ mass_to n f
+
+abbrev pub SeriesStaysNear : Type 0
+SeriesStaysNear = (s : Seen) (n : ℕ) (f : Sum) → IsSeriesOf s n f → IsNear f → IsNear s.terms
+
+abbrev pub SumsStayNear : Type 0
+SumsStayNear = (f g : Sum) → IsNear f → IsNear g → IsNear (f ++ g)
+
+abbrev pub MassesAdd : Type 0
+MassesAdd = (n : ℕ) (f g : Sum) → mass_to n (f ++ g) ≡ mass_to n f + mass_to n g
+
+-- the mass of a product's majorant is at most the product of the masses
+abbrev pub MassesMultiply : Type 0
+MassesMultiply = (n : ℕ) (f g : Sum) → mass_to n (mul n (absolute f) (absolute g)) ≤ mass_to n f * mass_to n g
