@@ -1,10 +1,11 @@
 -- What is proved here of sums, and of series of one order n: the laws of a commutative ring, and how bounds carry over.
 -- Sums are compared by their coefficients; products and powers are modulo degree n + 1. An operation's result is a series of
 -- the sum that its contract names, so by `SeriesIsDetermined` each law of sums is one of results, as equal series.
-use Rattle.std.specs.Prelude.{◌≡◌, ℕ, ◌+◌, ◌*◌, ◌≤◌, [], ◌++◌, ℤ, pos, ◌+ℤ◌}
+use Rattle.std.specs.Prelude.{◌≡◌, ℕ, ◌+◌, ◌*◌, ◌^◌, ◌≤◌, [], ◌++◌, ℤ, pos, ◌+ℤ◌}
 use Rattle.scattering.specs.Collections.{Every}
 use Rattle.scattering.specs.Series.{Sum, IsSeries, Same, degree, coef, unit, rest, one, minus, absolute, inverse, mul, pow, power, mass_to}
 use Rattle.trunc_series.specs.Shown.{Seen, IsSeriesOf, IsNear}
+use Rattle.trunc_series.specs.Capped.{IsMajorantOf}
 
 -- ---- series
 
@@ -83,3 +84,8 @@ MassesAdd = (n : ℕ) (f g : Sum) → mass_to n (f ++ g) ≡ mass_to n f + mass_
 -- the mass of a product's majorant is at most the product of the masses
 abbrev pub MassesMultiply : Type 0
 MassesMultiply = (n : ℕ) (f g : Sum) → mass_to n (mul n (absolute f) (absolute g)) ≤ mass_to n f * mass_to n g
+
+-- where the product of the majorants has a mass of at most 2^126, so has that of the absolute values: `mul`'s condition
+abbrev pub MajorantTestsProduct : Type 0
+MajorantTestsProduct = (n : ℕ) (f g : Sum) (a b p : Seen) → IsMajorantOf a n (absolute f) → IsMajorantOf b n (absolute g) → IsMajorantOf p n (mul n a.terms b.terms)
+    → mass_to n p.terms ≤ 2 ^ 126 → mass_to n (mul n (absolute f) (absolute g)) ≤ 2 ^ 126

@@ -1,6 +1,6 @@
 // The laws of series of one order: of a commutative ring, and of the bounds that operations ask for.
 
-ghost use Rattle.trunc_series.specs.Laws.{SeriesIsDetermined, AdditionCommutes, AdditionIsAssociative, ZeroIsNeutral, NegativeCancels, MultiplicationCommutes, MultiplicationIsAssociative, OneIsNeutral, MultiplicationDistributes, ExponentsAdd, InverseCancels, SignedExponentsAdd, AdditionKeepsSame, MultiplicationKeepsSame, PowersKeepSame, SeriesHasLeastMass, SeriesStaysNear, SumsStayNear, MassesAdd, MassesMultiply};
+ghost use Rattle.trunc_series.specs.Laws.{SeriesIsDetermined, AdditionCommutes, AdditionIsAssociative, ZeroIsNeutral, NegativeCancels, MultiplicationCommutes, MultiplicationIsAssociative, OneIsNeutral, MultiplicationDistributes, ExponentsAdd, InverseCancels, SignedExponentsAdd, AdditionKeepsSame, MultiplicationKeepsSame, PowersKeepSame, SeriesHasLeastMass, SeriesStaysNear, SumsStayNear, MassesAdd, MassesMultiply, MajorantTestsProduct};
 
 /// Series of one order are a commutative ring, modulo terms of degree above the order.
 ///
@@ -34,4 +34,9 @@ pub fn bounds_carry_over()
     ensures sums_stay_near { SumsStayNear }
     ensures masses_add { MassesAdd }
     ensures masses_multiply { MassesMultiply }
+{}
+
+/// How majorants test the condition of a product: by the mass of their product.
+pub fn majorants_test_masses()
+    ensures { MajorantTestsProduct }
 {}

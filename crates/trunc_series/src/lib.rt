@@ -13,7 +13,7 @@ mod product;
 mod series;
 
 pub use key::{Exp, Key};
-pub use laws::{bounds_carry_over, series_are_a_ring};
+pub use laws::{bounds_carry_over, majorants_test_masses, series_are_a_ring};
 pub use majorant::Majorant;
 pub use series::Series;
 
