@@ -1,7 +1,7 @@
 -- The correction at a point exists, and is whole.
-use Rattle.std.proofs.Common.{◌≡◌, ℕ, suc, subst, sym, List, ◌++◌, arith, add-one, ap, refl, ◌∙◌, ◌≢◌, [], ◌∷◌, Bool, true, false, inl, inr, ◌+◌}
+use Rattle.std.proofs.Common.{◌≡◌, ℕ, suc, subst, sym, List, ◌++◌, arith, add-one, refl, ◌∙◌, [], ◌∷◌, Bool, true, false, ◌+◌}
 use Rattle.std.specs.Prelude.{◌*ℤ◌, pos}
-use Rattle.scattering.specs.Collections.{Every, In, EveryPair}
+use Rattle.scattering.specs.Collections.{Every}
 use Rattle.scattering.specs.Series.{Exp, det, z, key_mul, monomial, coef, SameTo, Key, key_eq}
 use Rattle.scattering.specs.Plane.{Point}
 use Rattle.scattering.specs.Wall.{Wall, IsWall, cut_walls, walls}
@@ -21,8 +21,9 @@ use Rattle.completion_theory.proofs.UniqueCorrection.{correction_is_unique}
 use Rattle.sum_algebra.proofs.Ring.{nought, ring}
 use Rattle.sum_algebra.proofs.Ring as E
 use Rattle.sum_algebra.proofs.IntegerRing.{ints_ring, ◌:*◌, X}
-use Rattle.scattering.proofs.Lists.{Every-from_In, Every-at, Every-implies}
-use Rattle.scattering.proofs.Keys.{key_eq-same, key_eq-refl}
+use Rattle.scattering.proofs.Lists.{Every-from_In, Every-implies}
+use Rattle.scattering.proofs.Keys.{key_eq-same}
+use Rattle.scattering.proofs.Ratios.{ratio-own}
 
 -- where both images are the identity below degree n + 1
 pub correction : (n : ℕ) (ws : List Wall) (p : Point) → Every Proper ws → Eq n (image ws p (suc n) axis_x) (monomial (z axis_x)) → Eq n (image ws p (suc n) axis_y) (monomial (z axis_y)) → (h : Lie) × IsCorrection ws p (suc n) h × Every IsWhole h
@@ -66,17 +67,7 @@ correction_exists given n m e p le hg hk c ip =
 
 -- ---- every correction is whole
 
-ratio-own : (h : Lie) → EveryPair (λ t u. t.0 ≢ u.0) h → (t : Key × Ratio) → In t h → ratio_at h t.0 ≡ t.1
-ratio-own [] d t i = absurd i
-ratio-own (u ∷ h) d t i = go (key_eq u.0 t.0) refl i (ratio-own h d.1 t)
-  where
-    go : (b : Bool) → key_eq u.0 t.0 ≡ b → In t (u ∷ h) → (In t h → ratio_at h t.0 ≡ t.1) → ratio_at (u ∷ h) t.0 ≡ t.1
-    go true e (inl q) ih = rw e (ap (λ (x : Key × Ratio). x.1) (sym q))
-    go true e (inr j) ih = absurd (Every-at (λ (x : Key × Ratio). u.0 ≢ x.0) h t d.0 j (key_eq-same u.0 t.0 e))
-    go false e (inl q) ih = let f : key_eq u.0 t.0 ≡ true = subst (λ (x : Key × Ratio). key_eq u.0 x.0 ≡ true) (sym q) (key_eq-refl u.0) in absurd (cc)
-    go false e (inr j) ih = rw e (ih j)
-
-whole-at : (h : Lie) → Every IsWhole h → (k : Key) → IsWhole (k, ratio_at h k)
+pub whole-at : (h : Lie) → Every IsWhole h → (k : Key) → IsWhole (k, ratio_at h k)
 whole-at [] w k = λ g _. (pos 0, ring ints_ring (pos g ∷ []) (nought :* E.unit) (nought :* X) refl)
 whole-at (t ∷ h) w k = go (key_eq t.0 k) refl (whole-at h w.1 k)
   where

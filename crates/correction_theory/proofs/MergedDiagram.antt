@@ -38,7 +38,7 @@ total-rays : (n : ℕ) (p : Point) (d : Exp) (k : Key) (rays : List Wall) → to
 total-rays n p d k [] = refl
 total-rays n p d k (r ∷ rays) = ap (λ c. ray_count (p, d, k) r +ℤ c) (total-rays n p d k rays)
 
-live-by : (w : Wall) (k : Key) → coef (rest w.function) k ≢ pos 0 → IsTrue (is_live w)
+pub live-by : (w : Wall) (k : Key) → coef (rest w.function) k ≢ pos 0 → IsTrue (is_live w)
 live-by w k h = let t = coef-find (rest w.function) k h in any-true (λ (t : Term). true) (rest w.function) t.0 t.1 refl
 
 -- ---- one term
@@ -231,7 +231,7 @@ values-of n (t ∷ h) di de wh =
 -- ---- all points
 
 -- nothing is added at a point that isn't in the list
-not-listed : (cs : Corrections) (p : Point) (k : Key) (v : ℤ) → Every (λ c. point_eq c.0 p ≡ false) cs → IsAdded cs p k v → v ≡ pos 0
+pub not-listed : (cs : Corrections) (p : Point) (k : Key) (v : ℤ) → Every (λ c. point_eq c.0 p ≡ false) cs → IsAdded cs p k v → v ≡ pos 0
 not-listed [] p k v h a = a
 not-listed (c ∷ cs) p k v h a = not-listed cs p k v h.1 (rw h.0 at a)
 
@@ -241,7 +241,7 @@ record Merged (n : ℕ) (rays : List Wall) (cs : Corrections) : Type 0 where
   ordered : InRayOrder items
   added : (p : Point) (d : Exp) (k : Key) → IsDirection d → IsMultiple d k.exp → (v : ℤ) × IsAdded cs p k v × (ray_coef items p d k ≡ ray_coef rays p d k +ℤ v)
 
-not-origin : (d : Exp) → IsDirection d → (m : Exp) → IsMultiple d m → m ≢ origin
+pub not-origin : (d : Exp) → IsDirection d → (m : Exp) → IsMultiple d m → m ≢ origin
 not-origin d h m mk e = scale-not_origin mk.0 d (positive-not mk.0 mk.1) (direction-not_origin d h) (sym mk.2 ∙ e)
 
 merge : (n : ℕ) → 1 ≤ n → (rays : List Wall) → Every (GoodRay n) rays → InRayOrder rays → (cs : Corrections) → AreMergeable n cs → Merged n rays cs

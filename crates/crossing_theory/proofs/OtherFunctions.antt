@@ -30,7 +30,7 @@ refit F w = record w { function = F w }
 abbrev pub refit_half : (Wall → Sum) → Half → Half
 refit_half F h = record { wall = refit F h.wall; side = h.side }
 
-map-map : {A B C : Type 0} (g : B → C) (f : A → B) (xs : List A) → map g (map f xs) ≡ map (λ x. g (f x)) xs
+pub map-map : {A B C : Type 0} (g : B → C) (f : A → B) (xs : List A) → map g (map f xs) ≡ map (λ x. g (f x)) xs
 map-map g f [] = refl
 map-map g f (x ∷ xs) = ap (λ r. g (f x) ∷ r) (map-map g f xs)
 
@@ -43,7 +43,7 @@ put-map f before before' e x (y ∷ ys) =
       | false ↦ refl
     ]
 
-in_order-map : {A B : Type 0} (f : A → B) (before : A → A → Bool) (before' : B → B → Bool) → ((x y : A) → before' (f x) (f y) ≡ before x y) → (xs : List A) → in_order before' (map f xs) ≡ map f (in_order before xs)
+pub in_order-map : {A B : Type 0} (f : A → B) (before : A → A → Bool) (before' : B → B → Bool) → ((x y : A) → before' (f x) (f y) ≡ before x y) → (xs : List A) → in_order before' (map f xs) ≡ map f (in_order before xs)
 in_order-map f before before' e [] = refl
 in_order-map f before before' e (x ∷ xs) = ap (put before' (f x)) (in_order-map f before before' e xs) ∙ put-map f before before' e x (in_order before xs)
 

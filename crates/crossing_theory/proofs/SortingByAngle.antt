@@ -129,7 +129,7 @@ module _ {A : Type 0} (before : A → A → Bool) (Q : A → Type 0)
     (trans : (x y z : A) → Q x → Q y → Q z → before y x ≡ false → before z y ≡ false → before z x ≡ false)
     (asym : (y x : A) → before y x ≡ true → before x y ≡ false) where
   -- none is before an earlier one
-  abbrev Sorted : List A → Type 0
+  abbrev pub Sorted : List A → Type 0
   Sorted xs = EveryPair (λ y z. before z y ≡ false) xs
 
   after-all : (x y : A) (ys : List A) → Q x → Q y → Every Q ys → before y x ≡ false → Every (λ z. before z y ≡ false) ys → Every (λ z. before z x ≡ false) ys
@@ -144,11 +144,11 @@ module _ {A : Type 0} (before : A → A → Bool) (Q : A → Type 0)
       go true e h = (Every-put (λ z. before z y ≡ false) before x ys (asym y x e) s.0, h)
       go false e h = ((e, after-all x y ys qx qs.0 qs.1 e s.0), s)
 
-  in_order-sorted : (xs : List A) → Every Q xs → Sorted (in_order before xs)
+  pub in_order-sorted : (xs : List A) → Every Q xs → Sorted (in_order before xs)
   in_order-sorted [] h = tt
   in_order-sorted (x ∷ xs) h = put-sorted x (in_order before xs) h.0 (Every-in_order Q before xs h.1) (in_order-sorted xs h.1)
 
-  put-first : (x : A) (zs : List A) → Every (λ z. before z x ≡ false) zs → put before x zs ≡ x ∷ zs
+  pub put-first : (x : A) (zs : List A) → Every (λ z. before z x ≡ false) zs → put before x zs ≡ x ∷ zs
   put-first x [] h = refl
   put-first x (z ∷ zs) h = ap (λ (b : Bool). elim b [ true ↦ z ∷ put before x zs | false ↦ x ∷ z ∷ zs ]) h.0
 

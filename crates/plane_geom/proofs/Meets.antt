@@ -25,7 +25,7 @@ moves (Line p d) = direction-not_origin (exp_of d) d.primitive
 moves (Half p d) = direction-not_origin (exp_of d) d.primitive
 
 -- a point of a support is on its line
-flat : (s : Support) (q : Point) → pos 1 ≤ℤ q.w → OnSupport s q → det (support_dir s) (difference (support_at s) q) ≡ pos 0
+pub flat : (s : Support) (q : Point) → pos 1 ≤ℤ q.w → OnSupport s q → det (support_dir s) (difference (support_at s) q) ≡ pos 0
 flat (Line p d) q v h = (line-test (point_of p) (exp_of d) q p.reduced.below v (direction-not_origin (exp_of d) d.primitive)).1 h
 flat (Half p d) q v h = (from-test (point_of p) (exp_of d) q p.reduced.below v h).0
 

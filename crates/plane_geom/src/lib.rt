@@ -16,6 +16,7 @@ mod products;
 pub use angle::angle_cmp;
 pub use crossing::meet;
 pub use places::{on, side};
+pub use products::minor;
 
 /// The point (x/w, y/w), in lowest terms with w at least 1, each number at most 2^40 in absolute
 /// value.

@@ -12,7 +12,7 @@ pub(crate) fn product(a: i64, b: i64) -> i128
 }
 
 /// a * b - c * d
-pub(crate) fn minor(a: i64, b: i64, c: i64, d: i64) -> i128
+pub fn minor(a: i64, b: i64, c: i64, d: i64) -> i128
     requires a { nat_abs a ≤ 2 ^ 40 }
     requires b { nat_abs b ≤ 2 ^ 40 }
     requires c { nat_abs c ≤ 2 ^ 40 }

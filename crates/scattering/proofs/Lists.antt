@@ -213,3 +213,31 @@ In-left (z ∷ xs) ys x (inr i) = inr (In-left xs ys x i)
 pub In-right : {A : Type 0} (xs ys : List A) (x : A) → In x ys → In x (xs ++ ys)
 In-right [] ys x i = i
 In-right (z ∷ xs) ys x i = inr (In-right xs ys x i)
+
+pub In-flat_map : {A B : Type 0} (f : A → List B) (xs : List A) (x : A) (y : B) → In x xs → In y (f x) → In y (flat_map f xs)
+In-flat_map f [] x y i j = absurd i
+In-flat_map f (z ∷ xs) x y (inl e) j = In-left (f z) (flat_map f xs) y (subst (λ w. In y (f w)) e j)
+In-flat_map f (z ∷ xs) x y (inr i) j = In-right (f z) (flat_map f xs) y (In-flat_map f xs x y i j)
+
+In-put : {A : Type 0} (before : A → A → Bool) (x y : A) (ys : List A) → (y ≡ x) ⊎ In y ys → In y (put before x ys)
+In-put before x y [] i = i
+In-put before x y (z ∷ ys) i =
+    elim (before z x) as (λ b. In y (elim b [ true ↦ z ∷ put before x ys | false ↦ x ∷ z ∷ ys ])) [
+      | true ↦ later i (In-put before x y ys)
+      | false ↦ i
+    ]
+  where
+    later : (y ≡ x) ⊎ In y (z ∷ ys) → ((y ≡ x) ⊎ In y ys → In y (put before x ys)) → In y (z ∷ put before x ys)
+    later (inl e) ih = inr (ih (inl e))
+    later (inr (inl e)) ih = inl e
+    later (inr (inr j)) ih = inr (ih (inr j))
+
+pub In-in_order : {A : Type 0} (before : A → A → Bool) (xs : List A) (y : A) → In y xs → In y (in_order before xs)
+In-in_order before [] y i = absurd i
+In-in_order before (x ∷ xs) y (inl e) = In-put before x y (in_order before xs) (inl e)
+In-in_order before (x ∷ xs) y (inr i) = In-put before x y (in_order before xs) (inr (In-in_order before xs y i))
+
+-- what holds of the images of all elements
+pub Every-images : {A B : Type 0} (P : B → Type 0) (f : A → B) (xs : List A) → Every (λ x. P (f x)) xs → Every P (map f xs)
+Every-images P f [] h = tt
+Every-images P f (x ∷ xs) h = (h.0, Every-images P f xs h.1)

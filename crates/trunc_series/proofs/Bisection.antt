@@ -8,7 +8,7 @@ use Rattle.scattering.proofs.Keys.{key_eq-refl, key_eq-same}
 use Rattle.trunc_series.specs.declared.key.Key.{Key as CodeKey}
 use Rattle.trunc_series.specs.Shown.{key_of, sum_of}
 use Rattle.trunc_series.specs.Reduced.{key_order}
-use Rattle.trunc_series.proofs.Order.{key_before-trans, key_before-same, key_before-irrefl}
+use Rattle.scattering.proofs.KeyOrder.{key_before-trans, key_before-same, key_before-irrefl}
 use Rattle.trunc_series.proofs.Coefficients.{Every-weaker, apart, coef-none, coef-append, skip-zero, add-zero}
 use Rattle.trunc_series.proofs.Terms.{at, Every-at, sum_of-halves, is-less, is-greater, is-equal}
 

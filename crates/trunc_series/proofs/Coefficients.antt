@@ -8,7 +8,7 @@ use Rattle.scattering.specs.Series.{Key, Term, Sum, degree, key_eq, key_before, 
 use Rattle.scattering.proofs.Keys.{key_eq-same, key_eq-refl}
 use Rattle.trunc_series.specs.declared.arithmetic.Arithmetic.{Arithmetic}
 use Rattle.trunc_series.specs.Arithmetic.{IsKeepable}
-use Rattle.trunc_series.proofs.Order.{key_before-irrefl}
+use Rattle.scattering.proofs.KeyOrder.{key_before-irrefl}
 use Rattle.trunc_series.proofs.Kept.{keepable-zero, keepable-add}
 
 -- ---- facts about each element

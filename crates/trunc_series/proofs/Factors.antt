@@ -1,18 +1,19 @@
 -- Parts of factors are factors, and the steps of the program's products.
-use Rattle.std.proofs.Common.{◌≡◌, ℕ, ◌+◌, ◌-◌, ◌<◌, ◌≤◌, refl, sym, ap, ◌∙◌, Bool, true, false, cond, List, [], ◌∷◌, ◌++◌, length, drop, arith}
-use Rattle.std.specs.Prelude.{ℤ, ◌*ℤ◌, filter}
+use Rattle.std.proofs.Common.{◌≡◌, ℕ, ◌+◌, ◌-◌, ◌<◌, ◌≤◌, refl, sym, subst, ap, ◌∙◌, Bool, true, false, cond, List, [], ◌∷◌, ◌++◌, length, drop, arith}
+use Rattle.std.specs.Prelude.{ℤ, ◌*ℤ◌, filter, nat_le}
+use Rattle.std.proofs.lemmas.Bool.{le-leb}
 use Rattle.std.proofs.lemmas.List.{drop_all, append-nil}
 use Rattle.scattering.specs.Collections.{Every, EveryPair}
-use Rattle.scattering.specs.Series.{Term, Sum, degree, key_mul, cut}
+use Rattle.scattering.specs.Series.{Term, Sum, degree, key_mul, cut, mul}
 use Rattle.trunc_series.specs.declared.key.Key.{Key as CodeKey}
 use Rattle.trunc_series.specs.declared.arithmetic.Arithmetic.{Arithmetic}
 use Rattle.trunc_series.specs.Shown.{key_of, term_of, sum_of}
-use Rattle.trunc_series.specs.Arithmetic.{kept}
+use Rattle.trunc_series.specs.Arithmetic.{kept, IsKeepable}
 use Rattle.trunc_series.specs.Reduced.{unless_zero, IsReduced, IsFactor, PairsFit, pairs}
 use Rattle.trunc_series.proofs.Coefficients.{Every-weaker, Every-left, Every-right}
 use Rattle.trunc_series.proofs.Terms.{at, sum_of-drop, sum_of-unless_zero}
 use Rattle.trunc_series.proofs.Exact.{low-cut}
-use Rattle.trunc_series.proofs.Rows.{row_of, row_sum, level, level-degree, Every-filter}
+use Rattle.trunc_series.proofs.Rows.{row_of, row_sum, row-reduced, row-fitting, fitting, fitting-low, level, level-degree, Every-filter}
 
 -- ---- parts
 
@@ -61,6 +62,32 @@ module _ (rule : Arithmetic) where
 
   pub row-done : (t : Term) (out b : List (CodeKey × ℤ)) (i : ℕ) → length b ≤ i → sum_of out ++ row_of rule t (sum_of (drop i b)) ≡ row_of rule t (sum_of b) → sum_of out ≡ row_of rule t (sum_of b)
   row-done t out b i h e = sym (append-nil (sum_of out)) ∙ ap (λ r. sum_of out ++ row_of rule t (sum_of r)) (sym (drop_all i b h)) ∙ e
+
+  -- ---- a row without the terms of high degree
+
+  pub low-step : (n : ℕ) (t : Term) (out b : List (CodeKey × ℤ)) (i : ℕ) (z : CodeKey) (c : ℤ) → i < length b → degree t.0 + degree (key_of (at b i).0) ≤ n → key_of z ≡ key_mul t.0 (key_of (at b i).0) → c ≡ kept rule (t.1 *ℤ (at b i).1)
+      → sum_of (out ++ unless_zero (z, c)) ++ row_of rule t (fitting n (degree t.0) (sum_of (drop (i + 1) b))) ≡ sum_of out ++ row_of rule t (fitting n (degree t.0) (sum_of (drop i b)))
+  low-step n t out b i z c h l e f =
+      sum_of-unless_zero out (z, c) _
+      ∙ ap (λ r. sum_of out ++ r) (sym (ap (λ s. row_of rule t (fitting n (degree t.0) s)) (sum_of-drop b i h) ∙ rw (le-leb (degree t.0 + degree (key_of (at b i).0)) n l, f, e) refl))
+
+  pub low-skip : (n : ℕ) (t : Term) (out b : List (CodeKey × ℤ)) (i : ℕ) → i < length b → n < degree t.0 + degree (key_of (at b i).0)
+      → sum_of out ++ row_of rule t (fitting n (degree t.0) (sum_of (drop (i + 1) b))) ≡ sum_of out ++ row_of rule t (fitting n (degree t.0) (sum_of (drop i b)))
+  low-skip n t out b i h l =
+      ap (λ r. sum_of out ++ r) (sym (ap (λ s. row_of rule t (fitting n (degree t.0) s)) (sum_of-drop b i h) ∙ rw (above (degree t.0 + degree (key_of (at b i).0)) l) refl))
+    where
+      above : (d : ℕ) → n < d → nat_le d n ≡ false
+      above d l = grind arith
+
+  pub low-done : (n : ℕ) (t : Term) (out b : List (CodeKey × ℤ)) (i : ℕ) → length b ≤ i
+      → sum_of out ++ row_of rule t (fitting n (degree t.0) (sum_of (drop i b))) ≡ row_of rule t (fitting n (degree t.0) (sum_of b)) → sum_of out ≡ row_of rule t (fitting n (degree t.0) (sum_of b))
+  low-done n t out b i h e = sym (append-nil (sum_of out)) ∙ ap (λ r. sum_of out ++ row_of rule t (fitting n (degree t.0) (sum_of r))) (sym (drop_all i b h)) ∙ e
+
+  pub low-reduced : (n : ℕ) (t : Term) (g : Sum) → IsKeepable rule t.1 → IsFactor rule g → IsReduced rule n (row_of rule t (fitting n (degree t.0) g)) (mul n (t ∷ []) g)
+  low-reduced n t g h f =
+      let w = factor-filter (λ u. nat_le (degree t.0 + degree u.0) n) g f in
+      subst (λ (s : Sum). IsReduced rule n (row_of rule t (fitting n (degree t.0) g)) s) (sym (append-nil (cut n (row_sum t g)) ∙ row-fitting n t g))
+      (row-reduced rule t n (fitting n (degree t.0) g) h w.keepable w.rises (fitting-low n (degree t.0) g))
 
 -- ---- all pairs
 

@@ -26,15 +26,15 @@ mul-from n a b (t ∷ f) g h k = Every-append (λ u. a + b ≤ degree u.0) (cut 
     row [] e = tt
     row (u ∷ g) e = let p = h.0 in let q = e.0 in let d = degree-mul t.0 u.0 in (omega (arith, p, q, d), row g e.1)
 
-pow-from : (n : ℕ) (f : Sum) (i : ℕ) → Every (λ t. 1 ≤ degree t.0) f → Every (λ t. i ≤ degree t.0) (pow n f i)
+pub pow-from : (n : ℕ) (f : Sum) (i : ℕ) → Every (λ t. 1 ≤ degree t.0) f → Every (λ t. i ≤ degree t.0) (pow n f i)
 pow-from n f zero h = (omega arith, tt)
 pow-from n f (suc i) h = subst (λ (a : ℕ). Every (λ t. a ≤ degree t.0) (mul n f (pow n f i))) (let e : 1 + i ≡ suc i = omega arith in e) (mul-from n 1 i f (pow n f i) h (pow-from n f i h))
 
-too-high : (n : ℕ) (f : Sum) (k : Key) → Every (λ t. suc n ≤ degree t.0) f → Every (λ t. degree t.0 ≤ n) f → coef f k ≡ pos 0
+pub too-high : (n : ℕ) (f : Sum) (k : Key) → Every (λ t. suc n ≤ degree t.0) f → Every (λ t. degree t.0 ≤ n) f → coef f k ≡ pos 0
 too-high n [] k h l = refl
 too-high n (t ∷ f) k h l = let p = h.0 in let q = l.0 in absurd (omega (arith, p, q))
 
-every-minus : (P : Key → Type 0) (f : Sum) → Every (λ t. P t.0) f → Every (λ t. P t.0) (minus f)
+pub every-minus : (P : Key → Type 0) (f : Sum) → Every (λ t. P t.0) f → Every (λ t. P t.0) (minus f)
 every-minus P [] h = tt
 every-minus P (t ∷ f) h = (h.0, every-minus P f h.1)
 

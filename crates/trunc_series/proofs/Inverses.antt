@@ -6,17 +6,19 @@ use Rattle.scattering.specs.Collections.{Every, EveryPair}
 use Rattle.scattering.specs.Series.{Key, Term, Sum, IsSeries, degree, key_eq, key_mul, key_before, term_mul, coef, cut, mul, pow, power, powers_to, unit, rest, absolute, minus, inverse, geometric, mass_to}
 use Rattle.trunc_series.specs.declared.arithmetic.Arithmetic.{Arithmetic}
 use Rattle.trunc_series.specs.declared.arithmetic.Arithmetic.TheVariants.{Wrapping}
-use Rattle.trunc_series.specs.Arithmetic.{kept, limit}
+use Rattle.trunc_series.specs.Arithmetic.{kept, IsKeepable, limit}
+use Rattle.trunc_series.proofs.Kept.{kept-same_left, kept-same_right}
 use Rattle.trunc_series.specs.Shown.{IsValid, majorant_power}
 use Rattle.trunc_series.specs.Capped.{IsMajorant}
 use Rattle.trunc_series.specs.Reduced.{IsReduced, IsTame}
 use Rattle.trunc_series.proofs.Rows.{row_sum, Every-filter}
 use Rattle.trunc_series.proofs.Factors.{pair-filter}
 use Rattle.trunc_series.proofs.Merging.{whole}
-use Rattle.trunc_series.proofs.Coefficients.{abs-coef}
+use Rattle.trunc_series.proofs.Coefficients.{abs-coef, Every-append, coef-append, keepable-coef}
 use Rattle.trunc_series.proofs.Exact.{Made, exact, own}
 use Rattle.trunc_series.proofs.Congruence.{left-kept, mul-comm}
 use Rattle.trunc_series.proofs.PowerLaws.{pow-low, pow-keepable}
+use Rattle.trunc_series.proofs.Kept.{keepable-one}
 
 pub majorant-rest : (n : ℕ) (f : Sum) → IsMajorant n f → IsMajorant n (rest f)
 majorant-rest n f m = record {
@@ -138,6 +140,37 @@ module _ (rule : Arithmetic) (n : ℕ) (a g : Sum) (h : IsReduced rule n a g) wh
 
   pub pow-reduced : (i : ℕ) (p : Sum) → IsReduced rule n p (pow n a i) → IsReduced rule n p (pow n g i)
   pow-reduced i p r = record { series = r.series; keeps = r.keeps; keepable = pow-keepable rule n g h.keepable i; same = λ k. r.same k ∙ pow-same i k }
+
+  powers-keepable : (f : Sum) → Every (λ t. IsKeepable rule t.1) f → (i : ℕ) → Every (λ t. IsKeepable rule t.1) (powers_to n f i)
+  powers-keepable f k zero = (keepable-one rule, tt)
+  powers-keepable f k (suc i) = Every-append (λ t. IsKeepable rule t.1) (powers_to n f i) (pow n f (suc i)) (powers-keepable f k i) (pow-keepable rule n f k (suc i))
+
+  powers-same : (i : ℕ) (k : Key) → kept rule (coef (powers_to n a i) k) ≡ kept rule (coef (powers_to n g i) k)
+  powers-same zero k = refl
+  powers-same (suc i) k =
+      let ka = whole rule a h.keeps in
+      let sa = keepable-coef rule (powers_to n a i) k (powers-keepable a ka i) in
+      let sg = keepable-coef rule (powers_to n g i) k (powers-keepable g h.keepable i) in
+      let pa = keepable-coef rule (pow n a (suc i)) k (pow-keepable rule n a ka (suc i)) in
+      let pg = keepable-coef rule (pow n g (suc i)) k (pow-keepable rule n g h.keepable (suc i)) in
+      ap (kept rule) (coef-append (powers_to n a i) (pow n a (suc i)) k)
+      ∙ kept-same_left rule (coef (powers_to n a i) k) (coef (powers_to n g i) k) (coef (pow n a (suc i)) k) sa sg pa (powers-same i k)
+      ∙ kept-same_right rule (coef (powers_to n g i) k) (coef (pow n a (suc i)) k) (coef (pow n g (suc i)) k) sg pa pg (pow-same (suc i) k)
+      ∙ ap (kept rule) (sym (coef-append (powers_to n g i) (pow n g (suc i)) k))
+
+  pub powers-reduced : (i : ℕ) (p : Sum) → IsReduced rule n p (powers_to n a i) → IsReduced rule n p (powers_to n g i)
+  powers-reduced i p r = record { series = r.series; keeps = r.keeps; keepable = powers-keepable g h.keepable i; same = λ k. r.same k ∙ powers-same i k }
+
+pub rest-valid : (n : ℕ) (f : Sum) → IsValid n f → IsValid n (rest f)
+rest-valid n f v = record {
+  order = v.order;
+  series = record {
+    rises = pair-filter _ (λ t. not (key_eq t.0 unit)) f v.series.rises;
+    nonzero = Every-filter _ (λ t. not (key_eq t.0 unit)) f v.series.nonzero;
+    low = Every-filter _ (λ t. not (key_eq t.0 unit)) f v.series.low;
+  };
+  small = rest-small n f v;
+}
 
 -- ---- powers of a series
 

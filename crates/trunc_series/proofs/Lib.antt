@@ -1,9 +1,8 @@
-pub mod Order
 pub mod Kept
 pub mod Coefficients
 pub mod Merging
 pub mod Terms
-pub mod Compare
+pub mod KeyOrder
 pub mod Exact
 pub mod Bisection
 pub mod Mass

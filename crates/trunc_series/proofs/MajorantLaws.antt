@@ -1,5 +1,5 @@
 -- A majorant's mass tests the mass of what it bounds: where the kept coefficients sum to at most 2^126, so do all.
-use Rattle.std.proofs.Common.{◌≡◌, ℕ, ◌+◌, ◌≤◌, ◌^◌, refl, sym, ap, ◌∙◌, Bool, true, false, [], ◌∷◌, arith}
+use Rattle.std.proofs.Common.{min, ◌≡◌, ℕ, ◌+◌, ◌≤◌, ◌^◌, refl, sym, ap, ◌∙◌, Bool, true, false, [], ◌∷◌, arith}
 use Rattle.std.specs.Prelude.{ℤ, pos, ◌+ℤ◌, ◌≤ℤ◌, nat_abs, nat_le}
 use Rattle.std.specs.Int.{int_min}
 use Rattle.std.proofs.lemmas.Int.{ints, clamps}
@@ -13,7 +13,9 @@ use Rattle.trunc_series.specs.Arithmetic.{kept, IsKeepable, limit}
 use Rattle.trunc_series.specs.Capped.{IsMajorantOf}
 use Rattle.trunc_series.specs.Reduced.{IsReduced}
 use Rattle.trunc_series.specs.Laws.{MajorantTestsProduct}
-use Rattle.trunc_series.proofs.Coefficients.{Apart, apart-rising, coef-none_at, has-coef, keepable-coef, skip-zero, add-zero}
+use Rattle.trunc_series.proofs.Coefficients.{Apart, apart-rising, coef-none_at, has-coef, keepable-coef, skip-zero, add-zero, abs-coef}
+use Rattle.std.proofs.Math.Decide.{dec_le}
+use Rattle.trunc_series.proofs.Mass.{mass-series}
 use Rattle.trunc_series.proofs.Congruence.{product-reduced}
 use Rattle.trunc_series.proofs.Rows.{Every-filter, mul-keepable}
 
@@ -119,3 +121,31 @@ majorant-tests n f g a b p ha hb hp m =
     whole : (h : Sum) → Every (λ t. (kept Saturating t.1 ≡ t.1) × IsKeepable Saturating t.1) h → Every (λ t. IsKeepable Saturating t.1) h
     whole [] k = tt
     whole (t ∷ h) k = (k.0.1, whole h k.1)
+
+-- a majorant has the mass of what it bounds, up to the limit
+pub majorant-mass : (n : ℕ) (m : Seen) (f : Sum) → IsMajorantOf m n f → Every (λ t. IsKeepable Saturating t.1) f → Every (λ t. degree t.0 ≤ n) f → min (mass_to n m.terms) (2 ^ 126 + 1) ≡ min (mass_to n f) (2 ^ 126 + 1)
+majorant-mass n m f h p l = go (dec_le (mass_to n m.terms) (2 ^ 126)) (dec_le (mass_to n f) (2 ^ 126))
+  where
+    r : IsReduced Saturating n m.terms f
+    r = reduced-of n m f h p
+
+    keepable : (g : Sum) → Every (λ t. (kept Saturating t.1 ≡ t.1) × IsKeepable Saturating t.1) g → Every (λ t. IsKeepable Saturating t.1) g
+    keepable [] k = tt
+    keepable (t ∷ g) k = (k.0.1, keepable g k.1)
+
+    above : mass_to n m.terms ≤ 2 ^ 126 → mass_to n f ≤ mass_to n m.terms
+    above q = mass-kept n m.terms f (apart-rising m.terms r.series.rises) (keepable m.terms r.keeps) p r.same q
+
+    exact : mass_to n f ≤ 2 ^ 126 → (k : Key) → coef m.terms k ≡ coef f k
+    exact q k = h.capped k ∙ small (coef f k) (let b = abs-coef n f k l in omega (arith, b, q))
+      where
+        small : (c : ℤ) → nat_abs c ≤ 2 ^ 126 → int_min c limit ≡ c
+        small c b = omega (arith, ints, clamps, b)
+
+    below : mass_to n f ≤ 2 ^ 126 → mass_to n m.terms ≤ mass_to n f
+    below q = mass-series n n m.terms f h.series (exact q)
+
+    go : Dec (mass_to n m.terms ≤ 2 ^ 126) → Dec (mass_to n f ≤ 2 ^ 126) → min (mass_to n m.terms) (2 ^ 126 + 1) ≡ min (mass_to n f) (2 ^ 126 + 1)
+    go (yes a) b = let x = above a in let y = below (omega (arith, x, a)) in omega (arith, x, y)
+    go (no a) (yes b) = let y = below b in absurd (a (omega (arith, y, b)))
+    go (no a) (no b) = omega (arith, a, b)

@@ -11,7 +11,7 @@ use Rattle.trunc_series.specs.declared.arithmetic.Arithmetic.TheVariants.{Satura
 use Rattle.trunc_series.specs.Shown.{key_of, sum_of, IsValid, IsNear}
 use Rattle.trunc_series.specs.Arithmetic.{kept, IsKeepable, limit}
 use Rattle.trunc_series.specs.Capped.{IsMajorant}
-use Rattle.trunc_series.specs.Reduced.{IsReduced, IsFactor, absolute_sum}
+use Rattle.trunc_series.specs.Reduced.{IsReduced, IsFactor, IsTame, absolute_sum}
 use Rattle.trunc_series.proofs.Kept.{kept-kept, kept-same_left, kept-same_right, keepable-kept}
 use Rattle.trunc_series.proofs.Coefficients.{Every-weaker, apart-rising, coef-has, keepable-at, keepable-coef}
 use Rattle.trunc_series.proofs.Terms.{at, Every-at, sum_of-drop, sum_of-push}
@@ -60,6 +60,9 @@ absolute-every P Q (t ∷ f) i h = (i t h.0, absolute-every P Q f i h.1)
 absolute-rises : (f : Sum) → EveryPair (λ t u. IsTrue (key_before t.0 u.0)) f → EveryPair (λ t u. IsTrue (key_before t.0 u.0)) (absolute_sum f)
 absolute-rises [] h = tt
 absolute-rises (t ∷ f) h = (absolute-every (λ u. IsTrue (key_before t.0 u.0)) (λ u. IsTrue (key_before t.0 u.0)) f (λ u b. b) h.0, absolute-rises f h.1)
+
+pub absolute-tame : (f : Sum) → Every (λ t. IsTame t.0) f → Every (λ t. IsTame t.0) (absolute_sum f)
+absolute-tame f h = absolute-every (λ t. IsTame t.0) (λ t. IsTame t.0) f (λ t i. i) h
 
 absolute-whole : (f : Sum) → Keepable Saturating (absolute f)
 absolute-whole [] = tt

@@ -7,7 +7,7 @@ use Rattle.scattering.specs.Series.{Key, Term, Sum, degree, int_eq, key_eq, key_
 use Rattle.trunc_series.specs.declared.arithmetic.Arithmetic.{Arithmetic}
 use Rattle.trunc_series.specs.Arithmetic.{kept, IsKeepable}
 use Rattle.trunc_series.specs.Reduced.{IsReduced}
-use Rattle.trunc_series.proofs.Order.{key_before-same, key_before-trans}
+use Rattle.scattering.proofs.KeyOrder.{key_before-same, key_before-trans}
 use Rattle.trunc_series.proofs.Kept.{keepable-add, keepable-kept, kept-kept, kept-same_right, kept-same_left}
 use Rattle.trunc_series.proofs.Coefficients.{Every-weaker, Every-append, skip-zero, add-zero, coef-append, keepable-at, keepable-coef}
 

@@ -1,21 +1,21 @@
 -- Powers add up; their keys, and those of reduced lists.
 use Rattle.std.proofs.Common.{◌≡◌, ◌≢◌, ℕ, zero, suc, ◌+◌, ◌<◌, ◌≤◌, refl, sym, subst, ap, ◌∙◌, Bool, true, false, cond, not, [], ◌∷◌, ◌++◌, arith, zero-add, add-one}
-use Rattle.std.specs.Prelude.{ℤ, pos, ◌*ℤ◌, nat_le, IsTrue}
+use Rattle.std.specs.Prelude.{ℤ, pos, ◌*ℤ◌, nat_le}
 use Rattle.std.proofs.lemmas.Int.{ints}
 use Rattle.std.proofs.lemmas.List.{append-nil}
 use Rattle.std.proofs.lemmas.Bool.{le-leb}
 use lib.IntN.{+ℤ_idl}
-use Rattle.scattering.specs.Collections.{Every, EveryPair}
-use Rattle.scattering.specs.Series.{Key, Term, Sum, Same, degree, key_eq, key_mul, key_before, coef, cut, mul, pow, powers_to, one, unit, rest}
-use Rattle.scattering.proofs.Keys.{key_eq-same, key_eq-refl}
+use Rattle.scattering.specs.Collections.{Every}
+use Rattle.scattering.specs.Series.{Key, Term, Sum, Same, SameTo, degree, key_eq, key_mul, coef, cut, mul, pow, powers_to, one, unit, rest}
+use Rattle.scattering.proofs.Keys.{key_eq-same}
+use Rattle.scattering.proofs.DistinctKeys.{rising-own}
 use Rattle.scattering.proofs.Pairing.{pairing-same}
 use Rattle.trunc_series.specs.declared.arithmetic.Arithmetic.{Arithmetic}
 use Rattle.trunc_series.specs.Arithmetic.{kept, IsKeepable}
 use Rattle.trunc_series.specs.Shown.{IsNear}
 use Rattle.trunc_series.specs.Reduced.{IsReduced, IsFactor, IsNearKey, IsTame}
 use Rattle.trunc_series.proofs.Kept.{kept-zero, kept-one, keepable-one}
-use Rattle.trunc_series.proofs.Coefficients.{Every-weaker, Every-append, abs-add, skip-zero, add-zero, coef-none, apart}
-use Rattle.trunc_series.proofs.Bisection.{apart-back}
+use Rattle.trunc_series.proofs.Coefficients.{Every-append, abs-add}
 use Rattle.trunc_series.proofs.Merging.{whole}
 use Rattle.trunc_series.proofs.Rows.{row_sum, Every-filter, reduced-same, mul-keepable}
 use Rattle.trunc_series.proofs.Products.{low-mul}
@@ -24,7 +24,7 @@ use Rattle.trunc_series.proofs.Associate.{degree-mul, mul-assoc}
 
 -- ---- factors with the same coefficients
 
-row-above : (n : ℕ) (t : Term) (g : Sum) → n < degree t.0 → cut n (row_sum t g) ≡ []
+pub row-above : (n : ℕ) (t : Term) (g : Sum) → n < degree t.0 → cut n (row_sum t g) ≡ []
 row-above n t [] h = refl
 row-above n t (u ∷ g) h =
     let e : nat_le (degree (key_mul t.0 u.0)) n ≡ false = high (degree (key_mul t.0 u.0)) (omega (arith, degree-mul t.0 u.0, h)) in
@@ -33,9 +33,13 @@ row-above n t (u ∷ g) h =
     high : (d : ℕ) → n < d → nat_le d n ≡ false
     high d l = grind arith
 
+-- a product depends on its factors up to the degree that is kept
+pub mul-same_to : (n : ℕ) (f f' g : Sum) → SameTo n f f' → Same (mul n f g) (mul n f' g)
+mul-same_to n f f' g s k =
+    mul-weight n f g k ∙ pairing-same (weight n g k) n f f' s (λ x l. ap (λ r. coef r k) (row-above n (x, pos 1) g (omega (arith, l)))) ∙ sym (mul-weight n f' g k)
+
 pub mul-same_left : (n : ℕ) (f f' g : Sum) → Same f f' → Same (mul n f g) (mul n f' g)
-mul-same_left n f f' g s k =
-    mul-weight n f g k ∙ pairing-same (weight n g k) n f f' (λ x l. s x) (λ x l. ap (λ r. coef r k) (row-above n (x, pos 1) g (omega (arith, l)))) ∙ sym (mul-weight n f' g k)
+mul-same_left n f f' g s = mul-same_to n f f' g (λ k l. s k)
 
 pub mul-same_right : (n : ℕ) (f g g' : Sum) → Same g g' → Same (mul n f g) (mul n f g')
 mul-same_right n f g g' s k = mul-comm n f g k ∙ mul-same_left n g g' f s k ∙ mul-comm n g' f k
@@ -55,12 +59,15 @@ unit-row : (g : Sum) → row_sum (unit, pos 1) g ≡ g
 unit-row [] = refl
 unit-row (u ∷ g) = let e = unit-mul u.0 in let c = one-mul u.1 in let r = unit-row g in λ i. (e i, c i) ∷ r i
 
-cut-low : (n : ℕ) (g : Sum) → Every (λ t. degree t.0 ≤ n) g → cut n g ≡ g
+pub cut-low : (n : ℕ) (g : Sum) → Every (λ t. degree t.0 ≤ n) g → cut n g ≡ g
 cut-low n [] h = refl
 cut-low n (t ∷ g) h = rw (le-leb (degree t.0) n h.0) (ap (λ r. t ∷ r) (cut-low n g h.1))
 
+pub one-mul_cut : (n : ℕ) (g : Sum) → mul n one g ≡ cut n g
+one-mul_cut n g = append-nil (cut n (row_sum (unit, pos 1) g)) ∙ ap (cut n) (unit-row g)
+
 pub mul-one : (n : ℕ) (g : Sum) → Every (λ t. degree t.0 ≤ n) g → mul n one g ≡ g
-mul-one n g h = append-nil (cut n (row_sum (unit, pos 1) g)) ∙ ap (cut n) (unit-row g) ∙ cut-low n g h
+mul-one n g h = one-mul_cut n g ∙ cut-low n g h
 
 -- ---- powers
 
@@ -113,18 +120,9 @@ key-from P (t ∷ f) k h n = go (key_eq t.0 k) refl (key-from P f k h.1)
     go true e i = subst P (key_eq-same t.0 k e) h.0
     go false e i = i (λ z. n (rw (e, z) refl))
 
-pub each-own : (f : Sum) → EveryPair (λ t u. IsTrue (key_before t.0 u.0)) f → Every (λ t. coef f t.0 ≡ t.1) f
-each-own [] r = tt
-each-own (t ∷ f) r =
-    (rw (key_eq-refl t.0, coef-none f t.0 (Every-weaker (λ (u : Term). IsTrue (key_before t.0 u.0)) (λ u. key_eq u.0 t.0 ≡ false) f (λ u b. apart t.0 u.0 b) r.0)) (add-zero t.1), go f r.0 (each-own f r.1))
-  where
-    go : (g : Sum) → Every (λ u. IsTrue (key_before t.0 u.0)) g → Every (λ u. coef f u.0 ≡ u.1) g → Every (λ u. coef (t ∷ f) u.0 ≡ u.1) g
-    go [] b e = tt
-    go (u ∷ g) b e = (rw (apart-back t.0 u.0 b.0) (skip-zero (coef f u.0) ∙ e.0), go g b.1 e.1)
-
 -- a reduced list has only keys of the sum
 pub reduced-keys : (rule : Arithmetic) (P : Key → Type 0) (n : ℕ) (r f : Sum) → IsReduced rule n r f → Every (λ t. P t.0) f → Every (λ t. P t.0) r
-reduced-keys rule P n r f h e = go r (each-own r h.series.rises) h.series.nonzero h.keeps
+reduced-keys rule P n r f h e = go r (rising-own r h.series.rises) h.series.nonzero h.keeps
   where
     go : (g : Sum) → Every (λ t. coef r t.0 ≡ t.1) g → Every (λ t. t.1 ≢ pos 0) g → Every (λ t. (kept rule t.1 ≡ t.1) × IsKeepable rule t.1) g → Every (λ t. P t.0) g
     go [] o z k = tt

@@ -21,7 +21,8 @@ use Rattle.trunc_series.proofs.Majorants.{majorant-keepable}
 use Rattle.trunc_series.proofs.Merging.{Keepable}
 use Rattle.trunc_series.proofs.Rows.{row_sum, sum-keepable, Every-filter, mul-keepable}
 use Rattle.trunc_series.proofs.Associate.{degree-mul}
-use Rattle.trunc_series.proofs.PowerLaws.{pow-low, pow-tame, pow-keepable, mul-every, each-own}
+use Rattle.scattering.proofs.DistinctKeys.{rising-own}
+use Rattle.trunc_series.proofs.PowerLaws.{pow-low, pow-tame, pow-keepable, mul-every}
 
 -- ---- exponents that grow no faster than the degree
 
@@ -212,7 +213,7 @@ module _ (n : ℕ) (f : Sum) (m : ℕ) (o : n ≤ 24) (s : IsMajorant n f) (w : 
   some-powers : ArePowersNear n f (suc m)
   some-powers i l =
       within-near n (i * room) (pow n f i) o (times-room i l)
-      (pow-within n f room (all-within f w (each-own f s.series.rises) s.series.nonzero (majorant-keepable n f s)) i) (pow-low n f i)
+      (pow-within n f room (all-within f w (rising-own f s.series.rises) s.series.nonzero (majorant-keepable n f s)) i) (pow-low n f i)
 
 pub near-powers : (n : ℕ) (f : Sum) (m : ℕ) → n ≤ 24 → IsMajorant n f → IsNear f → HasNearKeys (pow n f m) → ArePowersNear n f m
 near-powers n f zero o s w r zero l = ((omega arith, omega arith), tt)

@@ -7,7 +7,7 @@ use Rattle.scattering.specs.Series.{Key, Term, Sum, Same, degree, int_eq, key_eq
 use Rattle.trunc_series.specs.declared.arithmetic.Arithmetic.{Arithmetic}
 use Rattle.trunc_series.specs.Arithmetic.{kept, IsKeepable}
 use Rattle.trunc_series.specs.Reduced.{IsReduced, pairs}
-use Rattle.trunc_series.proofs.Order.{key_before-mul}
+use Rattle.scattering.proofs.KeyOrder.{key_before-mul}
 use Rattle.trunc_series.proofs.Kept.{keepable-mul, keepable-kept, kept-kept, kept-same_right, kept-same_left}
 use Rattle.trunc_series.proofs.Coefficients.{Every-weaker, Every-append, coef-append, keepable-at, keepable-coef}
 use Rattle.trunc_series.proofs.Merging.{add_term, add_term-coef, Keepable}
@@ -103,6 +103,32 @@ row-cut n t (u ∷ g) h = rw same (go (nat_le (degree u.0) (n - degree t.0)) (ro
     go : (b : Bool) → cut n (row_sum t g) ≡ row_sum t (cut (n - degree t.0) g) → cond b (term_mul t u ∷ cut n (row_sum t g)) (cut n (row_sum t g)) ≡ row_sum t (cond b (u ∷ cut (n - degree t.0) g) (cut (n - degree t.0) g))
     go true e = ap (λ r. term_mul t u ∷ r) e
     go false e = e
+
+-- the terms that a term of degree d can be multiplied by, up to degree n
+abbrev pub fitting : ℕ → ℕ → Sum → Sum
+fitting n d f = filter (λ u. nat_le (d + degree u.0) n) f
+
+pub row-fitting : (n : ℕ) (t : Term) (g : Sum) → cut n (row_sum t g) ≡ row_sum t (fitting n (degree t.0) g)
+row-fitting n t [] = refl
+row-fitting n t (u ∷ g) = rw same (go (nat_le (degree t.0 + degree u.0) n) (row-fitting n t g))
+  where
+    same : nat_le (degree (key_mul t.0 u.0)) n ≡ nat_le (degree t.0 + degree u.0) n
+    same = let e : degree (key_mul t.0 u.0) ≡ degree t.0 + degree u.0 = omega arith in rw e refl
+
+    go : (b : Bool) → cut n (row_sum t g) ≡ row_sum t (fitting n (degree t.0) g) → cond b (term_mul t u ∷ cut n (row_sum t g)) (cut n (row_sum t g)) ≡ row_sum t (cond b (u ∷ fitting n (degree t.0) g) (fitting n (degree t.0) g))
+    go true e = ap (λ r. term_mul t u ∷ r) e
+    go false e = e
+
+pub fitting-low : (n d : ℕ) (g : Sum) → Every (λ u. d + degree u.0 ≤ n) (fitting n d g)
+fitting-low n d [] = tt
+fitting-low n d (u ∷ g) = go (nat_le (d + degree u.0) n) refl (fitting-low n d g)
+  where
+    below : (e : ℕ) → nat_le e n ≡ true → e ≤ n
+    below e h = grind arith
+
+    go : (b : Bool) → nat_le (d + degree u.0) n ≡ b → Every (λ u. d + degree u.0 ≤ n) (fitting n d g) → Every (λ u. d + degree u.0 ≤ n) (cond b (u ∷ fitting n d g) (fitting n d g))
+    go true e i = (below (d + degree u.0) e, i)
+    go false e i = i
 
 -- one degree more
 module _ (n d : ℕ) (g : Sum) (k : Key) (low : d ≤ n) where

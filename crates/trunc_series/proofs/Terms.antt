@@ -13,7 +13,7 @@ use Rattle.trunc_series.specs.declared.arithmetic.Arithmetic.{Arithmetic}
 use Rattle.trunc_series.specs.Shown.{key_of, term_of, sum_of}
 use Rattle.trunc_series.specs.Arithmetic.{kept}
 use Rattle.trunc_series.specs.Reduced.{unless_zero, key_order}
-use Rattle.trunc_series.proofs.Order.{key_before-trans}
+use Rattle.scattering.proofs.KeyOrder.{key_before-trans}
 use Rattle.trunc_series.proofs.Coefficients.{Every-weaker}
 use Rattle.trunc_series.proofs.Merging.{merge, merge-nil}
 

@@ -11,7 +11,7 @@ use Rattle.std.specs.Int.{int_min}
 use Rattle.trunc_series.specs.Arithmetic.{limit}
 use Rattle.trunc_series.specs.Capped.{IsMajorant, IsMajorantOf}
 use Rattle.trunc_series.proofs.Majorants.{min-fixed}
-use Rattle.trunc_series.proofs.Order.{key_before-same, key_before-trans}
+use Rattle.scattering.proofs.KeyOrder.{key_before-same, key_before-trans}
 use Rattle.trunc_series.proofs.Coefficients.{apart-rising, coef-has, Every-weaker, coef-none, apart, skip-zero, add-zero}
 
 abbrev Rises : Sum → Type 0

@@ -23,13 +23,13 @@ pub struct Key {
 
 impl Key {
     /// The constant key: no power, and exponent 0.
-    pub(crate) const ONE: Key = Key {
+    pub const ONE: Key = Key {
         exp: Exp { a: 0, b: 0 },
         powers: [0; 8],
     };
 
     /// The sum of the powers.
-    pub(crate) fn degree(&self) -> u32
+    pub fn degree(&self) -> u32
         ensures value { result ≡ degree (key_of self.now) }
         ensures small { result ≤ 2040 }
     {

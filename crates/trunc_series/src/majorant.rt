@@ -49,6 +49,36 @@ impl Majorant {
         })
     }
 
+    /// The majorant with these terms, which stand sorted by their keys.
+    pub fn from_sorted(alloc: Global, order: u32, terms: Vec<(Key, i128)>) -> Majorant
+        requires { IsMajorant order (sum_of terms.items) }
+        ensures order { result.order ≡ order }
+        ensures terms { result.terms ≡ sum_of terms.items }
+    {
+        Majorant {
+            alloc,
+            order,
+            terms,
+        }
+    }
+
+    /// 1/(2 - |f|), the sum of all powers of |f| - 1, of a series that is 1 and terms of degree at least 1.
+    pub fn geometric_of(f: &Series) -> Result<Majorant, AllocError>
+        requires others { Every (λ t. 1 ≤ degree t.0) (rest f.now.terms) }
+        requires near { IsNear f.now.terms }
+        ensures { IfOk result (λ m. IsMajorantOf m f.now.order (geometric f.now.order f.now.terms)) }
+    {
+        let alloc = f.allocator();
+        let others = without_constant(alloc, f.terms())?;
+        let others = absolutes(alloc, others.as_slice())?;
+        let terms = powers_summed(alloc, Arithmetic::Saturating, f.order(), others.as_slice())?;
+        Ok(Majorant {
+            alloc,
+            order: f.order(),
+            terms,
+        })
+    }
+
     pub fn order(&self) -> u32
         ensures { result ≡ self.now.order }
     {

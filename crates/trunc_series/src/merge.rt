@@ -1,9 +1,9 @@
 // Sorted lists of terms made from lists of terms: like terms added, none with coefficient 0.
 
-ghost use Rattle.std.specs.Prelude.{◌++◌, ℕ, IfOk, OnOk, IsTrue, filter, nat_le, ◌≡◌};
+ghost use Rattle.std.specs.Prelude.{◌++◌, ℕ, IfOk, OnOk, IsTrue, filter, nat_le, ◌≡◌, ◌↔◌};
 ghost use Rattle.scattering.specs.Collections.{Every, EveryPair};
 ghost use Rattle.scattering.specs.Series.{Sum, key_before, degree};
-ghost use Rattle.trunc_series.specs.Shown.{key_of, sum_of, IsTerm};
+ghost use Rattle.trunc_series.specs.Shown.{key_of, term_of, sum_of, IsTerm};
 ghost use Rattle.trunc_series.specs.Arithmetic.{IsKeepable};
 ghost use Rattle.trunc_series.specs.Reduced.{IsReduced, absolute_sum, unless_zero};
 
@@ -118,4 +118,35 @@ pub fn absolutes(alloc: Global, terms: &[(Key, i128)]) -> Result<Vec<(Key, i128)
         out.push((t.0, absolute(&t.1)))?;
     }
     Ok(out)
+}
+
+fn same_number(c: &i128, d: &i128) -> bool
+    ensures { IsTrue result ↔ (c.now ≡ d.now) }
+{
+    *c == *d
+}
+
+/// Whether two terms have the same key and coefficient.
+fn same_term(t: &(Key, i128), u: &(Key, i128)) -> bool
+    ensures { IsTrue result ↔ (term_of t.now ≡ term_of u.now) }
+{
+    match compare(&t.0, &u.0) {
+        Ordering::Equal => same_number(&t.1, &u.1),
+        _ => false,
+    }
+}
+
+/// Whether two lists have the same terms in the same order.
+pub fn same_terms(a: &[(Key, i128)], b: &[(Key, i128)]) -> bool
+    ensures { IsTrue result ↔ (sum_of a.now ≡ sum_of b.now) }
+{
+    if a.len() != b.len() {
+        return false;
+    }
+    for i in 0..a.len() {
+        if !same_term(&a[i], &b[i]) {
+            return false;
+        }
+    }
+    true
 }

@@ -13,7 +13,7 @@ use crate::product::multiplied;
 use std::alloc::{AllocError, Global};
 
 /// 1, the term at the constant key.
-fn one_term(alloc: Global) -> Result<Vec<(Key, i128)>, AllocError>
+pub fn one_term(alloc: Global) -> Result<Vec<(Key, i128)>, AllocError>
     ensures { IfOk result (λ r. sum_of r.items ≡ one) }
 {
     let mut out = Vec::new(alloc);

@@ -2,7 +2,7 @@
 // are merged two and two, so each term is handled once for each halving. Factors are taken degree by
 // degree, so that no pair is formed whose degree is above the order.
 
-ghost use Rattle.std.specs.Prelude.{◌≡◌, ◌≤◌, ◌+◌, ◌==◌, ℕ, IfOk, filter, map};
+ghost use Rattle.std.specs.Prelude.{◌≡◌, ◌≤◌, ◌+◌, ◌==◌, ℕ, [], ◌∷◌, IfOk, filter, map};
 ghost use Rattle.scattering.specs.Collections.{Every};
 ghost use Rattle.scattering.specs.Series.{degree, mul, term_mul};
 ghost use Rattle.trunc_series.specs.Shown.{key_of, term_of, sum_of};
@@ -36,6 +36,31 @@ pub fn row(
     Ok(out)
 }
 
+/// One term times a list, without terms of degree above `order`.
+pub fn low_row(
+    alloc: Global,
+    rule: Arithmetic,
+    order: u32,
+    t: &(Key, i128),
+    b: &[(Key, i128)],
+) -> Result<Vec<(Key, i128)>, AllocError>
+    requires order { order ≤ 24 }
+    requires near { IsNearKey (key_of t.now.0) }
+    requires keepable { IsKeepable rule t.now.1 }
+    requires factor { IsFactor rule (sum_of b.now) }
+    ensures { IfOk result (λ r. IsReduced rule order (sum_of r.items) (mul order (term_of t.now ∷ []) (sum_of b.now))) }
+{
+    let degree = t.0.degree();
+    let mut out = Vec::with_capacity(alloc, b.len())?;
+    for u in b {
+        if degree + u.0.degree() <= order {
+            let c = product(rule, &t.1, &u.1);
+            push_nonzero(&mut out, times(&t.0, &u.0), c)?;
+        }
+    }
+    Ok(out)
+}
+
 /// All pairs of terms.
 pub fn rows(
     alloc: Global,
@@ -61,7 +86,7 @@ pub fn rows(
 }
 
 /// The terms of one degree.
-fn level(alloc: Global, d: u32, terms: &[(Key, i128)]) -> Result<Vec<(Key, i128)>, AllocError>
+pub fn level(alloc: Global, d: u32, terms: &[(Key, i128)]) -> Result<Vec<(Key, i128)>, AllocError>
     ensures { IfOk result (λ r. r.items ≡ filter (λ t. degree (key_of t.0) == d) terms.now) }
 {
     let level = terms.iter().filter(|t| t.0.degree() == d);

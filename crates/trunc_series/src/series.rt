@@ -1,13 +1,13 @@
 // Series with exact coefficients.
 
-ghost use Rattle.std.specs.Prelude.{◌≡◌, ◌≢◌, ◌≤◌, ◌<◌, ◌+◌, ◌^◌, [], ◌∷◌, ◌++◌, pos, nat_abs, IfOk};
+ghost use Rattle.std.specs.Prelude.{◌≡◌, ◌≢◌, ◌≤◌, ◌<◌, ◌+◌, ◌^◌, [], ◌∷◌, ◌++◌, pos, nat_abs, IfOk, IsTrue, ◌↔◌};
 ghost use Rattle.scattering.specs.Collections.{Every, EveryPair};
 ghost use Rattle.scattering.specs.Series.{one, unit, degree, rest, coef, cut, mul, power, absolute, mass_to};
 ghost use Rattle.trunc_series.specs.Shown.{key_of, sum_of, IsTerm, IsSeriesOf, IsValid, IsNear, majorant_power};
 
 use crate::arithmetic::Arithmetic;
 use crate::key::{Key, compare};
-use crate::merge::{collected, low_terms, merged, rises};
+use crate::merge::{collected, low_terms, merged, rises, same_terms};
 use crate::power::{inverse_powered, powered};
 use crate::product::multiplied;
 use std::alloc::{AllocError, Global};
@@ -95,6 +95,19 @@ impl Series {
             order,
             terms,
         })
+    }
+
+    /// The series with these terms, which stand sorted by their keys.
+    pub fn from_sorted(alloc: Global, order: u32, terms: Vec<(Key, i128)>) -> Series
+        requires { IsValid order (sum_of terms.items) }
+        ensures order { result.order ≡ order }
+        ensures terms { result.terms ≡ sum_of terms.items }
+    {
+        Series {
+            alloc,
+            order,
+            terms,
+        }
     }
 
     pub fn order(&self) -> u32
@@ -197,6 +210,13 @@ impl Series {
             order,
             terms,
         })
+    }
+
+    /// Whether the orders and the terms are the same.
+    pub fn same(&self, other: &Series) -> bool
+        ensures { IsTrue result ↔ (self.now ≡ other.now) }
+    {
+        self.order == other.order && same_terms(self.terms.as_slice(), other.terms.as_slice())
     }
 
     pub(crate) fn allocator(&self) -> Global {

@@ -98,6 +98,8 @@ fn products_and_powers(rt: HostRuntime) -> Result<(), Fail> {
     assert_eq!(rt; of.terms(), [(ONE, 1), (X, 1)].as_slice());
     let geometric = of.geometric()?;
     assert_eq!(rt; geometric.terms(), [(ONE, 1), (X, 1), (XX, 1)].as_slice());
+    let same = Majorant::geometric_of(&minus)?;
+    assert_eq!(rt; same.terms(), geometric.terms());
     let square = [(ONE, 1), (X, 2), (XX, 1)];
     assert_eq!(rt; of.mul(&of)?.terms(), square.as_slice());
     assert_eq!(rt; of.power(2)?.terms(), square.as_slice());

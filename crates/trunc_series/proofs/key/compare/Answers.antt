@@ -1,5 +1,5 @@
 use Rattle.std.proofs.Common.{rules, length, ◌≡◌, ◌∙◌}
-use Rattle.trunc_series.proofs.Compare.{cmp-order}
+use Rattle.trunc_series.proofs.KeyOrder.{cmp-order}
 use Rattle.trunc_series.proofs.key.compare.Goals as goal
 
 pub returns : goal.returns
