@@ -1,0 +1,24 @@
+// Points in their order, each once.
+
+ghost use Rattle.std.specs.Prelude.{◌≡◌, ◌↔◌, IsTrue};
+ghost use Rattle.std.specs.List.{dedup};
+ghost use Rattle.std.specs.List.Sorted.{IsPermutation, IsSorted};
+ghost use Rattle.plane_geom.specs.Shown.{position_order};
+ghost use Rattle.joint_finder.specs.Joints.{same_point};
+
+use plane_geom::Point;
+
+/// Sorts points by x, then y.
+pub(crate) fn sort(points: &mut Vec<Point>)
+    ensures permutation { IsPermutation points.old.items points.new.items }
+    ensures sorted { IsSorted position_order points.new.items }
+{
+    points.sort_unstable_by(|p, q| p.compare(q));
+}
+
+/// Drops each point that equals the one before.
+pub(crate) fn drop_repeats(points: &mut Vec<Point>)
+    ensures { points.new.items ≡ dedup same_point points.old.items }
+{
+    points.dedup();
+}

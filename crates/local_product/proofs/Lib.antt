@@ -1,0 +1,13 @@
+pub mod StableSorting
+pub mod Substituted
+pub mod Saturated
+pub mod LowDegrees
+pub mod Exponents
+pub mod Sides
+pub mod Raised
+pub mod Stages
+pub mod Local
+pub mod Obstructed
+pub mod Worked
+pub mod OneVariable
+pub mod OneVariableFunctions

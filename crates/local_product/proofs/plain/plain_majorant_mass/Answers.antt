@@ -1,0 +1,31 @@
+use Rattle.std.proofs.Common.{ℕ, List, subst, arith}
+use Rattle.std.proofs.lemmas.List.{take_all}
+use Rattle.scattering.specs.Series.{monomial, z}
+use Rattle.scattering.specs.LocalProduct.{cross_majorant, carry_majorant}
+use Rattle.plane_geom.specs.Shown.{exp_of as direction_of}
+use Rattle.trunc_series.specs.Capped.{IsMajorantOf}
+use Rattle.trunc_series.specs.Shown.{exp_of}
+use Rattle.local_product.specs.declared.half_walls.HalfWall.{HalfWall}
+use Rattle.local_product.specs.Shown.{halves_of}
+use Rattle.local_product.proofs.Stages.{function-near, order-at, stage-weight, start-majorant, majorant-near, majorant-next}
+use Rattle.local_product.proofs.plain.plain_majorant_mass.Goals as goal
+
+pub loop-h-init : goal.loop-h-init
+loop-h-init c = start-majorant c.args.order (exp_of c.args.m) c.in_ok-start.field-0 c.in_ok-g.g c.in_ok-start.ensures c.in_ok-g.ensures
+
+pub cross_majorant-requires-clause-near : goal.cross_majorant-requires-clause-near
+cross_majorant-requires-clause-near c = majorant-near c.args.order c.requires.order (exp_of c.args.m) c.requires.axis c.args.halves.now c.loop-h.h-index c.loop-h.g c.loop-h.invariant
+
+pub cross_majorant-requires-clause-near_function : goal.cross_majorant-requires-clause-near_function
+cross_majorant-requires-clause-near_function c = function-near c.args.order c.h-item.result c.requires.order (order-at c.args.order c.args.halves.now c.loop-h.h-index c.h-item.result (omega arith) c.h-item.is c.requires.functions)
+
+pub loop-h-preserved : goal.loop-h-preserved
+loop-h-preserved c =
+    majorant-next c.args.order c.requires.order (exp_of c.args.m) c.requires.axis c.args.halves.now c.loop-h.h-index c.loop-h.g c.loop-h.invariant c.h-item.result (omega arith) c.h-item.is c.in_ok-g-2.g
+    (subst (λ (n : ℕ). IsMajorantOf c.in_ok-g-2.g n (cross_majorant n (direction_of c.h-item.result.wall.now.dir) c.h-item.result.wall.now.function.terms c.loop-h.g.terms)) c.loop-h.invariant.order c.in_ok-g-2.ensures)
+
+pub returns : goal.returns
+returns c =
+    stage-weight c.args.order (exp_of c.args.m) c.args.halves.now c.loop-h.g
+    (subst (λ (hs : List HalfWall). IsMajorantOf c.loop-h.g c.args.order (carry_majorant c.args.order (halves_of hs) (monomial (z (exp_of c.args.m))))) (take_all c.loop-h.h-index c.args.halves.now (omega arith)) c.loop-h.invariant)
+    c.mass.result c.mass.ensures

@@ -1,0 +1,50 @@
+use Rattle.std.proofs.Common.{◌≡◌, ℕ, ap, sym, subst, ◌∙◌, Option, Some}
+use Rattle.std.specs.Prelude.{IfSome, IsTrue}
+use Rattle.std.proofs.lemmas.Int.{to_z-of_z}
+use mir.Syntax.{w32}
+use Rattle.scattering.specs.Series.{Exp, Sum}
+use Rattle.plane_geom.specs.declared.Direction.{Direction}
+use Rattle.plane_geom.specs.Places.{pair}
+use Rattle.plane_geom.specs.Shown.{point_of, exp_of}
+use Rattle.trunc_series.specs.Shown.{Seen, IsSeriesOf, sum_of}
+use Rattle.trunc_series.proofs.Unique.{series-terms}
+use Rattle.scatter_diagram.specs.Kinds.{kind_of}
+use Rattle.scatter_diagram.specs.Shown.{wall_of}
+use Rattle.scatter_diagram.specs.Proper.{IsProper}
+use Rattle.scatter_diagram.specs.Worked.{is_low_function}
+use Rattle.scatter_diagram.proofs.Worked.{low-series, low-terms, low-distinct, low-proper}
+use Rattle.local_product.proofs.tests.wall.Goals as goal
+use Rattle.local_product.proofs.tests.wall.Goals.{in-Line, in-Outgoing}
+
+pub from_terms-requires-clause-distinct : goal.from_terms-requires-clause-distinct
+from_terms-requires-clause-distinct c = low-distinct c.args.order (pair c.args.a c.args.b) (sum_of c.args.terms.now) c.requires.function
+
+pub from_terms-requires-clause-each : goal.from_terms-requires-clause-each
+from_terms-requires-clause-each c = low-terms c.args.order (pair c.args.a c.args.b) (sum_of c.args.terms.now) c.requires.function
+
+made : (d : Direction) (e : Exp) (n : ℕ) (f : Sum) (s : Seen) → exp_of d ≡ e → IsTrue (is_low_function n e f) → IsSeriesOf s n f → IsProper d s
+made d e n f s q h k =
+    let t = series-terms s n n f k (low-series n e f h) in
+    subst (IsProper d) (λ i. record { order = sym k.order i; terms = sym t i }) (low-proper d n f (subst (λ (u : Exp). IsTrue (is_low_function n u f)) (sym q) h))
+
+direction : (o : Option Direction) (d : Direction) (e : Exp) → o ≡ Some d → IfSome o (λ x. exp_of x ≡ e) → exp_of d ≡ e
+direction o d e q h = subst (λ (p : Option Direction). IfSome p (λ x. exp_of x ≡ e)) q h
+
+pub line-requires : goal.line-requires
+line-requires c =
+    let d = direction c.new.result c.in_ok-dir.dir (pair c.args.a c.args.b) c.in_ok-dir.ensures.ok_part (rw (to_z-of_z w32 c.args.a c.ranges.a, to_z-of_z w32 c.args.b c.ranges.b) at c.new.ensures.numbers) in
+    made c.in_ok-dir.dir (pair c.args.a c.args.b) c.args.order (sum_of c.args.terms.now) c.in_ok-function.function d c.requires.function c.in_ok-function.ensures
+
+pub outgoing-requires : goal.outgoing-requires
+outgoing-requires c =
+    let d = direction c.new.result c.in_ok-dir.dir (pair c.args.a c.args.b) c.in_ok-dir.ensures.ok_part (rw (to_z-of_z w32 c.args.a c.ranges.a, to_z-of_z w32 c.args.b c.ranges.b) at c.new.ensures.numbers) in
+    made c.in_ok-dir.dir (pair c.args.a c.args.b) c.args.order (sum_of c.args.terms.now) c.in_ok-function.function d c.requires.function c.in_ok-function.ensures
+
+pub returns-clause-wall : goal.returns-clause-wall
+returns-clause-wall c =
+    let d = direction c.new.result c.in_ok-dir.dir (pair c.args.a c.args.b) c.in_ok-dir.ensures.ok_part (rw (to_z-of_z w32 c.args.a c.ranges.a, to_z-of_z w32 c.args.b c.ranges.b) at c.new.ensures.numbers) in
+    let t = series-terms c.in_ok-function.function c.args.order c.args.order (sum_of c.args.terms.now) c.in_ok-function.ensures (low-series c.args.order (pair c.args.a c.args.b) (sum_of c.args.terms.now) c.requires.function) in
+    elim c.match-kind.branch [
+      | in-Line w ↦ ap wall_of w.result-is ∙ w.line.ensures.wall ∙ (λ i. record { kind = kind_of (sym w.in-Line.is i); at = point_of c.args.at; dir = d i; function = t i })
+      | in-Outgoing w ↦ ap wall_of w.result-is ∙ w.outgoing.ensures.wall ∙ (λ i. record { kind = kind_of (sym w.in-Outgoing.is i); at = point_of c.args.at; dir = d i; function = t i })
+    ]

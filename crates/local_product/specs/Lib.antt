@@ -1,0 +1,4 @@
+pub mod Shown
+pub mod Obstruction
+pub mod Worked
+pub mod OneVariable

@@ -1,0 +1,99 @@
+// The half-walls at a point, in order by angle.
+
+ghost use Rattle.std.specs.Prelude.{◌≡◌, ◌++◌, ℕ, IfOk, OnOk, IsTrue, flat_map};
+ghost use Rattle.scattering.specs.Collections.{Every, in_order};
+ghost use Rattle.scattering.specs.Wall.{is_on};
+ghost use Rattle.scattering.specs.LocalProduct.{along, halves, half_walls};
+ghost use Rattle.plane_geom.specs.Shown.{point_of, exp_of};
+ghost use Rattle.scatter_diagram.specs.Listed.{AreOfOrder};
+ghost use Rattle.scatter_diagram.specs.Shown.{wall_of, walls_of};
+ghost use Rattle.local_product.specs.Shown.{half_of, halves_of, half_before, HalvesHaveOrder};
+
+use plane_geom::{Direction, Point, angle_cmp};
+use scatter_diagram::{Wall, opposite};
+use std::alloc::{AllocError, Global};
+use wall_auto::Side;
+
+/// A half-wall at a point: the part of a wall along its direction, which is crossed on the side of
+/// `Minus`, or the part against it, on the side of `Plus`.
+#[derive(Clone, Copy)]
+pub struct HalfWall<'a> {
+    pub wall: &'a Wall,
+    pub side: Side,
+}
+
+impl HalfWall<'_> {
+    /// The direction along which it goes from the point.
+    pub fn along(&self) -> Direction
+        ensures { exp_of result ≡ along (half_of self.now) }
+    {
+        match self.side {
+            Side::Minus => self.wall.dir,
+            Side::Plus => opposite(&self.wall.dir),
+        }
+    }
+}
+
+/// Adds the half-walls of a wall at a point on it: both, but of a ray that starts there the one along which
+/// it goes.
+fn push_halves<'a>(out: &mut Vec<HalfWall<'a>>, w: &'a Wall, p: &Point) -> Result<(), AllocError>
+    requires { IsTrue (is_on (wall_of w.now) (point_of p.now)) }
+    ensures halves { OnOk result (halves_of out.new.items ≡ halves_of out.old.items ++ halves (point_of p.now) (wall_of w.now)) }
+    ensures order { OnOk result (HalvesHaveOrder w.now.function.order out.old.items → HalvesHaveOrder w.now.function.order out.new.items) }
+{
+    let against = HalfWall {
+        wall: w,
+        side: Side::Plus,
+    };
+    if w.starts_at(p) {
+        out.push(against)?;
+        return Ok(());
+    }
+    out.push(HalfWall {
+        wall: w,
+        side: Side::Minus,
+    })?;
+    out.push(against)?;
+    Ok(())
+}
+
+/// The half-walls at a point of walls through it, wall by wall.
+fn unordered<'a>(
+    alloc: Global,
+    walls: &'a [Wall],
+    p: &Point,
+) -> Result<Vec<HalfWall<'a>>, AllocError>
+    requires { Every (λ w. IsTrue (is_on w (point_of p.now))) (walls_of walls.now) }
+    ensures halves { IfOk result (λ r. halves_of r.items ≡ flat_map (halves (point_of p.now)) (walls_of walls.now)) }
+    ensures order { IfOk result (λ r. (n : ℕ) → AreOfOrder n walls.now → HalvesHaveOrder n r.items) }
+{
+    let mut out = Vec::new(alloc);
+    for w in walls {
+        push_halves(&mut out, w, p)?;
+    }
+    Ok(out)
+}
+
+/// Sorts half-walls counter-clockwise from (1, 0); those along one direction stay in their order.
+fn arrange(halves: &mut Vec<HalfWall>) -> Result<(), AllocError>
+    ensures { OnOk result (halves.new.items ≡ in_order half_before halves.old.items) }
+{
+    halves.sort_by(|g, h| angle_cmp(&g.along(), &h.along()))?;
+    Ok(())
+}
+
+/// The half-walls at a point of walls through it, counter-clockwise from (1, 0). Those along one direction
+/// stand as their walls do.
+pub fn half_walls<'a>(
+    alloc: Global,
+    walls: &'a [Wall],
+    p: &Point,
+) -> Result<Vec<HalfWall<'a>>, AllocError>
+    requires { Every (λ w. IsTrue (is_on w (point_of p.now))) (walls_of walls.now) }
+    ensures halves { IfOk result (λ r. halves_of r.items ≡ half_walls (walls_of walls.now) (point_of p.now)) }
+    ensures order { IfOk result (λ r. (n : ℕ) → AreOfOrder n walls.now → HalvesHaveOrder n r.items) }
+{
+    let mut halves = unordered(alloc, walls, p)?;
+    arrange(&mut halves)?;
+    Ok(halves)
+}

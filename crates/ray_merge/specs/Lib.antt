@@ -1,0 +1,4 @@
+pub mod Additions
+pub mod Rays
+pub mod Answer
+pub mod Worked

@@ -1,0 +1,65 @@
+-- Rays as they are merged.
+--     ray_order r s            how two rays stand, by start and then direction
+--     load n w                 the mass of a wall's terms other than 1
+--     HasNewTerms n w          w has only terms of degree n besides 1, and is light
+--     IsJoinable n r s         rays of one direction with no common key but 1, light enough together
+--     IsJoined n r s w         w is the ray of r with the terms of s as well
+--     IsRayOf n p t w          w is the ray from p with 1 and the term t
+--     AreRaysTo n ws           outgoing rays with functions of order n at most, reduced
+--     AreLoads n m ws          none of the loads is above m
+use Rattle.std.specs.Prelude.{◌≡◌, ◌≢◌, ℕ, ◌+◌, ◌≤◌, ◌<◌, ◌^◌, cond, IsTrue, ◌+ℤ◌, List, [], ◌∷◌}
+use Rattle.std.specs.declared.cmp.Ordering.{Ordering}
+use Rattle.std.specs.declared.cmp.Ordering.TheVariants.{Less, Equal, Greater}
+use Rattle.scattering.specs.Collections.{Every}
+use Rattle.scattering.specs.Series.{Exp, Key, Term, degree, coef, coef_at, rest, mass_to, exp_before, IsMultiple}
+use Rattle.scattering.specs.Plane.{Point}
+use Rattle.scattering.specs.Wall.{Outgoing, Wall, is_live}
+use Rattle.scattering.specs.Completion.{ray_before, IsReduced}
+use Rattle.scatter_diagram.specs.declared.wall.Wall.{Wall as CodeWall}
+use Rattle.scatter_diagram.specs.Shown.{walls_of}
+
+abbrev pub exp_order : Exp → Exp → Ordering
+exp_order d e = cond (exp_before d e) Less (cond (exp_before e d) Greater Equal)
+
+abbrev pub ray_order : Wall → Wall → Ordering
+ray_order r s = cond (ray_before r s) Less (cond (ray_before s r) Greater Equal)
+
+abbrev pub load : ℕ → Wall → ℕ
+load n w = mass_to n (rest w.function)
+
+abbrev pub AreLoads : ℕ → ℕ → List Wall → Type 0
+AreLoads n m ws = Every (λ w. load n w ≤ m) ws
+
+-- all terms but 1 are of degree n, and their mass is at most 2^126
+pub record HasNewTerms (n : ℕ) (w : Wall) : Type 0 where
+  pub degrees : Every (λ t. degree t.0 ≡ n) (rest w.function)
+  pub light : load n w ≤ 2 ^ 126
+
+pub record IsJoinable (n : ℕ) (r s : Wall) : Type 0 where
+  pub distinct : Every (λ t. Every (λ u. t.0 ≢ u.0) (rest s.function)) (rest r.function)
+  pub light : load n r + load n s < 2 ^ 127
+
+pub record IsJoined (n : ℕ) (r s w : Wall) : Type 0 where
+  pub kind : w.kind ≡ r.kind
+  pub at : w.at ≡ r.at
+  pub dir : w.dir ≡ r.dir
+  pub terms : (k : Key) → coef (rest w.function) k ≡ coef (rest r.function) k +ℤ coef (rest s.function) k
+  pub load : load n w ≤ load n r + load n s
+  pub live : IsTrue (is_live r) → IsTrue (is_live w)
+
+pub record IsRayOf (n : ℕ) (p : Point) (t : Term) (w : Wall) : Type 0 where
+  pub kind : w.kind ≡ Outgoing
+  pub at : w.at ≡ p
+  pub dir : IsMultiple w.dir t.0.exp
+  pub terms : (k : Key) → coef (rest w.function) k ≡ coef_at k t
+  pub load : load n w ≤ mass_to n (t ∷ [])
+  pub live : IsTrue (is_live w)
+
+pub record AreRaysTo (n : ℕ) (ws : List CodeWall) : Type 0 where
+  pub order : Every (λ w. w.function.order ≤ n) ws
+  pub outgoing : Every (λ r. r.kind ≡ Outgoing) (walls_of ws)
+  pub reduced : IsReduced (walls_of ws)
+
+-- each two rays of one start and direction are joinable
+abbrev pub AreJoinable : ℕ → List Wall → List Wall → Type 0
+AreJoinable n rs ss = Every (λ r. Every (λ s. r.at ≡ s.at → r.dir ≡ s.dir → IsJoinable n r s) ss) rs

@@ -1,0 +1,95 @@
+// Single rays: read at a higher order, joined with another, or made of one term.
+
+ghost use Rattle.std.specs.Prelude.{◌≡◌, ◌≢◌, ◌≤◌, ◌^◌, IfOk, filter, nat_abs, not};
+ghost use Rattle.scattering.specs.Series.{IsMultiple, key_eq, origin, unit};
+ghost use Rattle.plane_geom.specs.Shown.{exp_of, point_of};
+ghost use Rattle.trunc_series.specs.Shown.{key_of, term_of};
+ghost use Rattle.scatter_diagram.specs.Shown.{wall_of};
+ghost use Rattle.ray_merge.specs.Additions.{IsTameKey, IsTermOf};
+ghost use Rattle.ray_merge.specs.Rays.{IsJoinable, IsJoined, IsRayOf};
+
+use frac_128::gcd;
+use plane_geom::{Direction, Point};
+use scatter_diagram::{Wall, WallKind};
+use std::alloc::{AllocError, Global};
+use trunc_series::sorted_terms::{Arithmetic, merged};
+use trunc_series::{Key, Series, is_constant};
+
+/// The ray with its function read at a higher order.
+pub(crate) fn raised(alloc: Global, order: u32, ray: &Wall) -> Result<Wall, AllocError>
+    requires order { order ≤ 24 }
+    requires lower { ray.now.function.order ≤ order }
+    ensures wall { IfOk result (λ w. wall_of w ≡ wall_of ray.now) }
+    ensures order { IfOk result (λ w. w.function.order ≡ order) }
+{
+    Ok(Wall {
+        kind: ray.kind,
+        at: ray.at,
+        dir: ray.dir,
+        function: Series::from_terms(alloc, order, ray.function.terms())?,
+    })
+}
+
+/// The terms but the constant one.
+fn others(alloc: Global, terms: &[(Key, i128)]) -> Result<Vec<(Key, i128)>, AllocError>
+    ensures { IfOk result (λ r. r.items ≡ filter (λ t. not (key_eq (key_of t.0) unit)) terms.now) }
+{
+    let others = terms.iter().filter(|t| !is_constant(&t.0));
+    others.copied().collect(alloc)
+}
+
+/// The first ray with the terms of the second, which has the same direction.
+pub(crate) fn joined(alloc: Global, order: u32, r: &Wall, s: &Wall) -> Result<Wall, AllocError>
+    requires order { order ≤ 24 }
+    requires left { r.now.function.order ≤ order }
+    requires right { s.now.function.order ≤ order }
+    requires dir { (wall_of r.now).dir ≡ (wall_of s.now).dir }
+    requires joinable { IsJoinable order (wall_of r.now) (wall_of s.now) }
+    ensures wall { IfOk result (λ w. IsJoined order (wall_of r.now) (wall_of s.now) (wall_of w)) }
+    ensures order { IfOk result (λ w. w.function.order ≡ order) }
+{
+    let more = others(alloc, s.function.terms())?;
+    let rule = Arithmetic::Wrapping;
+    let terms = merged(alloc, rule, r.function.terms(), more.as_slice())?;
+    let function = Series::from_terms(alloc, order, terms.as_slice())?;
+    Ok(Wall {
+        kind: r.kind,
+        at: r.at,
+        dir: r.dir,
+        function,
+    })
+}
+
+/// m/gcd(m), for the exponent m of the key.
+fn primitive(key: &Key) -> Direction
+    requires exponent { (key_of key.now).exp ≢ origin }
+    requires tame { IsTameKey 24 (key_of key.now) }
+    ensures { IsMultiple (exp_of result) (key_of key.now).exp }
+{
+    let (a, b) = (key.exp.a, key.exp.b);
+    let g = gcd(a.unsigned_abs() as u128, b.unsigned_abs() as u128) as i32;
+    Direction { a: a / g, b: b / g }
+}
+
+/// The ray from the point whose function is 1 and one term, along the term's exponent.
+pub(crate) fn ray_of(
+    alloc: Global,
+    order: u32,
+    at: &Point,
+    term: &(Key, i128),
+) -> Result<Wall, AllocError>
+    requires some { 1 ≤ order }
+    requires order { order ≤ 24 }
+    requires term { IsTermOf order (term_of term.now) }
+    requires small { nat_abs term.now.1 ≤ 2 ^ 126 }
+    ensures wall { IfOk result (λ w. IsRayOf order (point_of at.now) (term_of term.now) (wall_of w)) }
+    ensures order { IfOk result (λ w. w.function.order ≡ order) }
+{
+    let terms = [(Key::ONE, 1), *term];
+    Ok(Wall {
+        kind: WallKind::Outgoing,
+        at: *at,
+        dir: primitive(&term.0),
+        function: Series::from_terms(alloc, order, &terms)?,
+    })
+}

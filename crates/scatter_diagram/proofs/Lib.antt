@@ -1,0 +1,4 @@
+pub mod Degrees
+pub mod Walls
+pub mod Places
+pub mod Worked

@@ -1,0 +1,5 @@
+use Rattle.scatter_diagram.proofs.Walls.{are-walls}
+use Rattle.scatter_diagram.proofs.diagram.Diagram.rays.Goals as goal
+
+pub returns-clause-proper : goal.returns-clause-proper
+returns-clause-proper c = rw (← c.self.view_is) (are-walls c.self.inside.order c.self.inside.rays.items c.self.invariant.rays.order)

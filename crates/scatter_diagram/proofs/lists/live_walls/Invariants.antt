@@ -1,0 +1,12 @@
+use Rattle.std.proofs.Common.{◌≡◌, take}
+use Rattle.std.specs.Prelude.{filter}
+use Rattle.scattering.specs.Wall.{is_live, cut_walls}
+use Rattle.scatter_diagram.specs.Shown.{walls_of}
+use Rattle.scatter_diagram.specs.Listed.{AreOfOrder}
+use Rattle.scatter_diagram.proofs.lists.live_walls.Given as goal
+
+abbrev pub invariant-loop-w : goal.invariant-loop-w
+invariant-loop-w l = record {
+  walls : walls_of l.out.items ≡ filter is_live (cut_walls l.order (walls_of (take l.w-index l.walls)));
+  order : AreOfOrder l.order l.out.items;
+}

@@ -1,0 +1,49 @@
+-- What lists of initial walls and of rays keep, and what contracts see of initial walls and of a diagram.
+--     AreLines n ws            lines with functions of order n
+--     AreRays n ws             outgoing rays with functions of order n, reduced
+--     SeenInitial              the number of variables and the lines
+--     SeenDiagram              the order, the lines and the rays
+use Rattle.std.specs.Prelude.{◌≡◌, ℕ, ◌≤◌, List, length, map}
+use Rattle.scattering.specs.Collections.{Every}
+use Rattle.scattering.specs.Wall.{Line, Outgoing, Wall, Diagram}
+use Rattle.scattering.specs.Completion.{IsReduced}
+use Rattle.scatter_diagram.specs.declared.wall.Wall.{Wall as CodeWall}
+use Rattle.scatter_diagram.specs.Shown.{walls_of}
+
+abbrev pub orders_of : List CodeWall → List ℕ
+orders_of ws = map (λ w. w.function.order) ws
+
+abbrev pub AreOfOrder : ℕ → List CodeWall → Type 0
+AreOfOrder n ws = Every (λ w. w.function.order ≡ n) ws
+
+pub record AreLines (n : ℕ) (ws : List CodeWall) : Type 0 where
+  pub order : AreOfOrder n ws
+  pub lines : Every (λ w. w.kind ≡ Line) (walls_of ws)
+
+pub record AreRays (n : ℕ) (ws : List CodeWall) : Type 0 where
+  pub order : AreOfOrder n ws
+  pub outgoing : Every (λ r. r.kind ≡ Outgoing) (walls_of ws)
+  pub reduced : IsReduced (walls_of ws)
+
+-- what initial walls keep
+pub record IsInitialList (vars : ℕ) (ws : List CodeWall) : Type 0 where
+  pub some_vars : 1 ≤ vars
+  pub few_vars : vars ≤ 8
+  pub few_lines : length ws ≤ 16
+  pub lines : AreLines 24 ws
+
+-- what a diagram keeps
+pub record IsDiagram (n : ℕ) (ls rs : List CodeWall) : Type 0 where
+  pub order : n ≤ 24
+  pub lines : AreLines n ls
+  pub rays : AreRays n rs
+
+-- what contracts see of initial walls
+pub record SeenInitial : Type 0 where
+  pub vars : ℕ
+  pub lines : List Wall
+
+-- what contracts see of a diagram
+pub record SeenDiagram : Type 0 where
+  pub order : ℕ
+  pub diagram : Diagram

@@ -1,0 +1,16 @@
+pub mod OfKey
+pub mod Arranged
+pub mod ReadTerms
+pub mod Divided
+pub mod LeadingParts
+pub mod EqualRatios
+pub mod RunningSums
+pub mod PairProducts
+pub mod AddedTerms
+pub mod Faults
+pub mod Bracketed
+pub mod UniqueElement
+pub mod WorkedImages
+pub mod ScaledBracket
+pub mod StatedLaws
+pub mod Logarithms

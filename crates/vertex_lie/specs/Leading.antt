@@ -1,0 +1,60 @@
+-- The leading part of a pair of images: the Lie element h whose brackets with z^(1,0) and z^(0,1) are what the images
+-- of these have at one degree.
+--     IsLeading x y n h        h is the leading part of degree n of the images x and y
+--     IsLeadingPart x y n h    and each other one has the same coefficients
+use Rattle.std.specs.Prelude.{◌≡◌, ◌≢◌, ℕ, ◌<◌, ◌^◌, ◌==◌, Bool, not, ◌&&◌, cond, ℤ, pos, ◌*ℤ◌, neg_ℤ, nat_abs, [], ◌∷◌, map, filter}
+use Rattle.scattering.specs.Collections.{Every, EveryPair}
+use Rattle.scattering.specs.Series.{Exp, Key, Term, Sum, origin, int_eq, exp_sub, degree, det, key_mul, z, coef}
+use Rattle.scattering.specs.LocalProduct.{axis_x, axis_y}
+use Rattle.scattering.specs.Correction.{IsRatio, Lie, ratio_at}
+use Rattle.vertex_lie.specs.declared.leading_part.Axis.{Axis}
+use Rattle.vertex_lie.specs.declared.leading_part.Axis.TheVariants.{X, Y}
+
+-- where x and y are the images under a local product, h is its correction at degree n
+pub record IsLeading (x y : Sum) (n : ℕ) (h : Lie) : Type 0 where
+  pub ratios : Every (λ t. IsRatio t.1) h
+  pub nonzero : Every (λ t. t.1.num ≢ pos 0) h
+  pub distinct : EveryPair (λ t u. t.0 ≢ u.0) h
+  pub degrees : Every (λ t. (degree t.0 ≡ n) × (t.0.exp ≢ origin)) h
+  pub at_x : (k : Key) → degree k ≡ n → coef x (key_mul k (z axis_x)) *ℤ (ratio_at h k).den ≡ (ratio_at h k).num *ℤ det k.exp axis_x
+  pub at_y : (k : Key) → degree k ≡ n → coef y (key_mul k (z axis_y)) *ℤ (ratio_at h k).den ≡ (ratio_at h k).num *ℤ det k.exp axis_y
+
+pub record IsLeadingPart (x y : Sum) (n : ℕ) (h : Lie) : Type 0 where
+  pub leading : IsLeading x y n h
+  pub only : (h' : Lie) → IsLeading x y n h' → (k : Key) → ratio_at h' k ≡ ratio_at h k
+
+-- ---- how it is read from the images
+
+abbrev pub along : Axis → Exp
+along X = axis_x
+along Y = axis_y
+
+-- the axis from whose image the coefficient at a key is read: y where the bracket with z^(1,0) is 0
+abbrev pub is_read : Axis → Key → Bool
+is_read X k = not (int_eq k.exp.b (pos 0))
+is_read Y k = int_eq k.exp.b (pos 0) && not (int_eq k.exp.a (pos 0))
+
+-- the determinant of an exponent and that axis
+abbrev pub turn : Exp → ℤ
+turn e = cond (int_eq e.b (pos 0)) e.a (neg_ℤ e.b)
+
+abbrev pub key_over : Key → Exp → Key
+key_over k m = record k { exp = exp_sub k.exp m }
+
+abbrev pub term_over : Exp → Term → Term
+term_over m t = (key_over t.0 m, t.1)
+
+-- of the image of an axis, the terms over z^m from which coefficients of degree n are read
+abbrev pub read_from : ℕ → Axis → Sum → Sum
+read_from n axis f = filter (λ t. (degree t.0 == n) && is_read axis t.0) (map (term_over (along axis)) f)
+
+-- each coefficient divided by a number that the exponent tells
+abbrev pub AreQuotients : (Exp → ℤ) → Sum → Lie → Type 0
+AreQuotients D [] [] = Unit {0}
+AreQuotients D [] (u ∷ h) = ⊥
+AreQuotients D (t ∷ f) [] = ⊥
+AreQuotients D (t ∷ f) (u ∷ h) = (t.0 ≡ u.0) × (u.1.num *ℤ D t.0.exp ≡ t.1 *ℤ u.1.den) × AreQuotients D f h
+
+-- a term that is divided
+abbrev pub IsDividend : Term → Type 0
+IsDividend t = (t.0.exp ≢ origin) × (nat_abs t.1 < 2 ^ 127)

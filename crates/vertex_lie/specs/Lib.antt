@@ -1,0 +1,6 @@
+pub mod Shown
+pub mod Leading
+pub mod Logarithm
+pub mod RationalBracket
+pub mod Worked
+pub mod Laws

@@ -1,0 +1,12 @@
+pub mod Alike
+pub mod Numbers
+pub mod Steps
+pub mod Evaluated
+pub mod LowerOrders
+pub mod PowerTables
+pub mod Prepared
+pub mod Images
+pub mod KnownPowers
+pub mod Results
+pub mod CrossedSeries
+pub mod WorkedWalls

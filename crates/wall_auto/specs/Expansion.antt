@@ -1,0 +1,29 @@
+-- Lists of numbers that stand for sums, as polynomials in a sum g with a power that is 0.
+--     evaluated n g cs       c0 + c1·g + c2·g^2 + .., modulo degree n + 1
+--     IsNilpotent            the m-th power of g is 0, as coefficients are kept
+--     Expands                the numbers stand for f
+use Rattle.std.specs.Prelude.{◌≡◌, ℕ, List, [], ◌∷◌, ◌++◌, ℤ, pos}
+use Rattle.scattering.specs.Collections.{Every}
+use Rattle.scattering.specs.Series.{Key, Sum, coef, unit, mul, pow}
+use Rattle.trunc_series.specs.declared.arithmetic.Arithmetic.{Arithmetic}
+use Rattle.trunc_series.specs.Arithmetic.{kept, IsKeepable}
+
+abbrev pub constant : ℤ → Sum
+constant c = (unit, c) ∷ []
+
+abbrev pub evaluated : ℕ → Sum → List ℤ → Sum
+evaluated n g [] = []
+evaluated n g (c ∷ cs) = constant c ++ mul n g (evaluated n g cs)
+
+-- numbers that may be kept by a rule
+abbrev pub AreKeepable : Arithmetic → List ℤ → Type 0
+AreKeepable rule cs = Every (λ c. IsKeepable rule c) cs
+
+pub record IsNilpotent (rule : Arithmetic) (n : ℕ) (g : Sum) (m : ℕ) : Type 0 where
+  pub keepable : Every (λ t. IsKeepable rule t.1) g
+  pub vanishes : (k : Key) → kept rule (coef (pow n g m) k) ≡ pos 0
+
+pub record Expands (rule : Arithmetic) (n : ℕ) (g : Sum) (cs : List ℤ) (f : Sum) : Type 0 where
+  pub numbers : AreKeepable rule cs
+  pub keepable : Every (λ t. IsKeepable rule t.1) f
+  pub same : (k : Key) → kept rule (coef (evaluated n g cs) k) ≡ kept rule (coef f k)
