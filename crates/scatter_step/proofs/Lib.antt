@@ -1,0 +1,10 @@
+pub mod Read
+pub mod Lines
+pub mod OrderZero
+pub mod NextOrder
+pub mod NextStop
+pub mod Outcomes
+pub mod Points
+pub mod Stopped
+pub mod Tame
+pub mod Uniqueness

@@ -1,0 +1,96 @@
+// Initial lines with their completion at an order.
+
+ghost use Rattle.std.specs.Prelude.{◌≡◌, ◌≤◌, IfOk, length};
+ghost use Rattle.scattering.specs.Wall.{walls};
+ghost use Rattle.scattering.specs.Completion.{IsCompletion};
+ghost use Rattle.scatter_step.specs.Completed.{IsCompleted};
+
+use scatter_diagram::{Diagram, Initial, cut_walls};
+use std::alloc::{AllocError, Global};
+use std::marker::Model;
+
+/// Initial lines and a diagram, which is their completion at its order, from 0 to 24, and has at most
+/// 8192 walls.
+#[derive(Drop)]
+pub struct Completed {
+    alloc: Global,
+    initial: Initial,
+    diagram: Diagram,
+}
+
+impl Model for Completed {
+    ghost use Rattle.scatter_step.specs.Completed.{SeenCompleted, IsCompleted};
+
+    ghost Value = { SeenCompleted };
+
+    ghost view = { λ c. record { initial = c.initial; order = c.diagram.order; diagram = c.diagram.diagram } };
+
+    ghost invariant = { λ c. IsCompleted (record { initial = c.initial; order = c.diagram.order; diagram = c.diagram.diagram }) };
+}
+
+impl Completed {
+    /// The completion of order 0: the lines alone, each with the function 1.
+    pub fn start(alloc: Global, initial: &Initial) -> Result<Completed, AllocError>
+        ensures initial { IfOk result (λ c. c.initial ≡ initial.now) }
+        ensures order { IfOk result (λ c. c.order ≡ 0) }
+        ensures completed { IfOk result IsCompleted }
+    {
+        let lines = cut_walls(alloc, 0, initial.lines())?;
+        let diagram = Diagram::from_walls(alloc, 0, lines, Vec::new(alloc))?;
+        Ok(Completed {
+            alloc,
+            initial: initial.copy()?,
+            diagram,
+        })
+    }
+
+    /// The same lines with another completion.
+    pub(crate) fn with_diagram(&self, diagram: Diagram) -> Result<Completed, AllocError>
+        requires order { diagram.order ≤ 24 }
+        requires completes { IsCompletion self.now.initial.lines diagram.order diagram.diagram }
+        requires few { length (walls diagram.diagram) ≤ 8192 }
+        ensures { IfOk result (λ c. c ≡ record { initial = self.now.initial; order = diagram.order; diagram = diagram.diagram }) }
+    {
+        Ok(Completed {
+            alloc: self.alloc,
+            initial: self.initial.copy()?,
+            diagram,
+        })
+    }
+
+    pub(crate) fn allocator(&self) -> Global {
+        self.alloc
+    }
+
+    pub fn order(&self) -> u32
+        ensures value { result ≡ self.now.order }
+        ensures bound { result ≤ 24 }
+        ensures completed { IsCompleted self.now }
+    {
+        self.diagram.order()
+    }
+
+    pub fn diagram(&self) -> &Diagram
+        ensures value { result.now ≡ record { order = self.now.order; diagram = self.now.diagram } }
+        ensures completed { IsCompleted self.now }
+    {
+        &self.diagram
+    }
+
+    pub fn initial(&self) -> &Initial
+        ensures value { result.now ≡ self.now.initial }
+        ensures completed { IsCompleted self.now }
+    {
+        &self.initial
+    }
+
+    pub fn copy(&self) -> Result<Completed, AllocError>
+        ensures { IfOk result (λ c. c ≡ self.now) }
+    {
+        Ok(Completed {
+            alloc: self.alloc,
+            initial: self.initial.copy()?,
+            diagram: self.diagram.copy()?,
+        })
+    }
+}
