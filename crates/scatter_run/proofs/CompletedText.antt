@@ -1,94 +1,59 @@
--- The text that is printed of two lines through the origin is that of their completion.
-use Rattle.std.proofs.Common.{◌≡◌, ℕ, refl, sym, subst, ◌≤◌, ◌+◌, List, [], ◌∷◌, length, arith}
-use Rattle.std.specs.Prelude.{pos, flat_map, codes}
-use Rattle.std.specs.List.{AllZip}
-use Rattle.scattering.specs.Series.{cut}
-use Rattle.scattering.specs.Plane.{IsDirection}
-use Rattle.scattering.specs.Wall.{Line, Wall, cut_wall, cut_walls}
-use Rattle.two_lines.proofs.Completes.{closed_form_completes}
-use Rattle.scatter_text.specs.declared.file.LineRow.{LineRow}
+-- What is made of a file by its initial lines, their completion and its text.
+use Rattle.std.proofs.Common.{◌≡◌, ℕ, subst, ◌≤◌, ◌^◌, List, length, arith}
+use Rattle.std.specs.Prelude.{Option, Some, None}
+use Rattle.scattering.specs.Wall.{Wall, Diagram, cut_walls}
+use Rattle.scattering.specs.Completion.{IsCompletion}
+use Rattle.scattering.specs.Stops.{StopCause, IsFirstStop, last_before}
+use Rattle.completion_theory.proofs.CutGiven.{completion-of_cut, first_stop-of_cut}
+use Rattle.scatter_diagram.specs.declared.stop.StopCause.{StopCause as CodeCause}
+use Rattle.scatter_diagram.specs.Listed.{SeenInitial}
+use Rattle.scatter_diagram.specs.Stopped.{stop_of}
+use Rattle.scatter_step.specs.Orders.{IsOutcome}
+use Rattle.scatter_step.specs.declared.complete.Outcome.{Outcome}
 use Rattle.scatter_text.specs.declared.file.TextFile.{TextFile}
-use Rattle.scatter_text.specs.Values.{IsLine}
-use Rattle.scatter_run.specs.declared.walls.Wall.{Wall as OriginWall}
-use Rattle.scatter_run.specs.GivenWalls.{function_of, direction_of as row_direction, IsWallOf}
-use Rattle.scatter_run.specs.DiagramText.{IsWallText, AreWallTexts}
-use Rattle.scatter_run.specs.TwoLines.{IsCutWall, AreRays}
-use Rattle.scatter_run.specs.Walls.{direction_of, wall_text, diagram_text}
+use Rattle.scatter_text.specs.DiagramText.{IsDiagramText}
+use Rattle.scatter_text.specs.GivenWalls.{IsInitialOf}
 use Rattle.scatter_run.specs.Completed.{IsCompletedText}
-use Rattle.scatter_run.proofs.GivenLines.{coprime-direction, degree_of, wall_of, given-wall, given-wall_of}
-use Rattle.scatter_run.proofs.WallTexts.{kept, kept-not_zero, cut-rows, is-wall_text}
-use Rattle.scatter_run.proofs.ClosedForm.{HasFewPowers, IsGiven, IsClosed, closed-form}
+use Rattle.scatter_text.specs.Grammar.{IsTextOf}
+use Rattle.scatter_text.specs.Limits.{limit_of}
+use Rattle.scatter_run.specs.declared.status.Status.{Status}
+use Rattle.scatter_run.specs.declared.status.Status.TheVariants.{Done, Words, Text, Limit, Stopped, ReadFault, WriteFault, Memory}
+use Rattle.scatter_run.specs.Outcome.{IsEnded, IsJobOutcome, ends_with}
+use Rattle.scatter_run.proofs.OneOutcome.{last-low}
 
--- a line through 0 0 with one term at most
-pub record IsSimple (vars : ℕ) (row : LineRow) : Type 0 where
-  pub valid : IsLine (pos vars) row
-  pub x : row.x.num ≡ pos 0
-  pub y : row.y.num ≡ pos 0
-  pub terms : length row.terms ≤ 1
+completed-text : (file : TextFile) (order : ℕ) (i : SeenInitial) (o : Outcome) (text : List ℕ) → order ≤ 24 → IsInitialOf file i → IsOutcome i order o
+    → IsDiagramText i.vars o.last.order o.last.diagram (stop_of o.stop) text → IsCompletedText file order (stop_of o.stop) text
+completed-text file order i o text low is out t =
+    let first : IsFirstStop (cut_walls 24 is.given) order (stop_of o.stop) = subst (λ (ws : List Wall). IsFirstStop ws order (stop_of o.stop)) is.lines out.stop in
+    let last : last_before order (stop_of o.stop) ≤ 24 = let l = last-low (cut_walls 24 is.given) order (stop_of o.stop) first in omega (arith, l, low) in
+    let done : IsCompletion (cut_walls 24 is.given) (last_before order (stop_of o.stop)) o.last.diagram =
+    subst (λ (ws : List Wall). IsCompletion ws (last_before order (stop_of o.stop)) o.last.diagram) is.lines (subst (λ (n : ℕ). IsCompletion i.lines n o.last.diagram) out.order out.completes) in
+    record {
+      vars = i.vars;
+      given = is.given;
+      diagram = o.last.diagram;
+      variables = is.vars;
+      lines = is.walls;
+      first = first_stop-of_cut is.given 24 order (stop_of o.stop) low first;
+      completion = completion-of_cut is.given 24 (last_before order (stop_of o.stop)) o.last.diagram last done;
+      printed = subst (λ (n : ℕ). IsDiagramText i.vars n o.last.diagram (stop_of o.stop) text) out.order t;
+    }
 
--- ---- one of the lines
+ended-by : (file : TextFile) (order : ℕ) (stop : Option (ℕ × CodeCause)) (text : List ℕ) → IsCompletedText file order (stop_of stop) text → IsEnded file order (ends_with stop) text
+ended-by file order None text h = h
+ended-by file order (Some s) text h = h
 
-module _ (order vars : ℕ) (row : LineRow) (w : OriginWall) (simple : IsSimple vars row) (is : IsCutWall order row w) where
-  same-direction : direction_of w ≡ row_direction row
-  same-direction = λ i. record { a = is.x i; b = is.y i }
+pub ended : (file : TextFile) (order : ℕ) (i : SeenInitial) (o : Outcome) (text : List ℕ) → order ≤ 24 → IsInitialOf file i → IsOutcome i order o
+    → IsDiagramText i.vars o.last.order o.last.diagram (stop_of o.stop) text → IsEnded file order (ends_with o.stop) text
+ended file order i o text low is out t = ended-by file order o.stop text (completed-text file order i o text low is out t)
 
-  line-given : vars ≤ 8 → HasFewPowers w → IsGiven order row.terms w
-  line-given few powers = record {
-    direction = subst IsDirection (sym same-direction) (coprime-direction (row_direction row) simple.valid.primitive);
-    short = record { each = simple.valid.terms.each; few = λ k d l. at_most (simple.valid.terms.variables k d l); short = simple.terms };
-    cut = is.terms;
-    few = powers;
-  }
-    where
-      at_most : {n : ℕ} → n ≡ vars → n ≤ 8
-      at_most e = omega (arith, e, few)
-
-  line-wall_of : IsWallOf row (wall_of (direction_of w) row.terms)
-  line-wall_of = given-wall_of row (direction_of w) same-direction simple.x simple.y
-
-  line-text : IsGiven order row.terms w → IsWallText (codes "line") vars (cut_wall order (wall_of (direction_of w) row.terms)) (wall_text (codes "line") vars w)
-  line-text g =
-      is-wall_text (codes "line") vars Line (cut order (function_of (direction_of w) row.terms)) w (cut-rows order (direction_of w) row.terms w.term g.direction g.short g.cut)
-      (λ s e. kept-not_zero row.terms s (kept order row.terms w.term s g.short g.cut e))
-
--- ---- both, and their rays
-
-pub completed_text : (file : TextFile) (vars order : ℕ) (first second : LineRow) (u v : OriginWall) (rays : List OriginWall) → order ≤ 2 → vars ≤ 8 → file.vars ≡ pos vars → file.lines ≡ first ∷ second ∷ []
-    → IsSimple vars first → IsSimple vars second → IsCutWall order first u → IsCutWall order second v → HasFewPowers u → HasFewPowers v → AreRays order u v rays
-    → IsCompletedText file order (diagram_text vars order (u ∷ v ∷ []) rays)
-completed_text file vars order first second u v rays low few variables lines a b cu cv pu pv made = record {
-  vars = vars;
-  given = given;
-  diagram = record { initial = cut_walls order given; rays = c.walls };
-  variables = variables;
-  lines = subst (λ (rows : List LineRow). AllZip IsWallOf rows given) (sym lines) (line-wall_of order vars first u a cu, (line-wall_of order vars second v b cv, tt));
-  completion =
-      closed_form_completes order bound (wall_of (direction_of u) first.terms) (wall_of (direction_of v) second.terms) c.walls low (omega (arith, low))
-      (given-wall bound (direction_of u) first.terms gu.direction gu.short (omega arith)) (given-wall bound (direction_of v) second.terms gv.direction gv.short (omega arith))
-      (record { line = refl; at = refl }) (record { line = refl; at = refl }) c.closed;
-  printed = (flat_map (wall_text (codes "line") vars) (u ∷ v ∷ []), flat_map (wall_text (codes "ray") vars) rays, texts, c.printed, refl);
-}
-  where
-    gu : IsGiven order first.terms u
-    gu = line-given order vars first u a cu few pu
-
-    gv : IsGiven order second.terms v
-    gv = line-given order vars second v b cv few pv
-
-    given : List Wall
-    given = wall_of (direction_of u) first.terms ∷ wall_of (direction_of v) second.terms ∷ []
-
-    bound : ℕ
-    bound = 2 + (degree_of first.terms + degree_of second.terms)
-
-    c : IsClosed order vars (wall_of (direction_of u) first.terms) (wall_of (direction_of v) second.terms) rays
-    c = closed-form order vars first.terms second.terms u v rays gu gv made
-
-    texts : AreWallTexts (codes "line") vars (cut_walls order given) (flat_map (wall_text (codes "line") vars) (u ∷ v ∷ []))
-    texts = (
-      wall_text (codes "line") vars u,
-      flat_map (wall_text (codes "line") vars) (v ∷ []),
-      line-text order vars first u a cu gu,
-      (wall_text (codes "line") vars v, [], line-text order vars second v b cv gv, refl, refl),
-      refl,
-    )
+-- so it is the outcome of bytes that say the file
+pub job-outcome : (order : ℕ) (bytes : List ℕ) (file : TextFile) (status : Status) (text : List ℕ) → length bytes ≤ 2 ^ 20 → IsTextOf bytes file → limit_of file order ≡ None → IsEnded file order status text → IsJobOutcome order bytes status text
+job-outcome order bytes file Done text short reads within h = record { short = short; file = file; reads = reads; within = within; completed = h }
+job-outcome order bytes file Words text short reads within h = absurd h
+job-outcome order bytes file (Text line kind) text short reads within h = absurd h
+job-outcome order bytes file (Limit kind) text short reads within h = absurd h
+job-outcome order bytes file (Stopped at cause) text short reads within h = record { short = short; file = file; reads = reads; within = within; completed = h }
+job-outcome order bytes file ReadFault text short reads within h = absurd h
+job-outcome order bytes file WriteFault text short reads within h = absurd h
+job-outcome order bytes file Memory text short reads within h = absurd h

@@ -1,15 +1,5 @@
-pub mod Accepted
-pub mod Casts
-pub mod ClosedForm
 pub mod CompletedText
-pub mod GivenLines
+pub mod OneOutcome
 pub mod Outcomes
-pub mod Powers
-pub mod Quotients
-pub mod Rays
-pub mod SmallLines
-pub mod TermPowers
-pub mod TokenLines
-pub mod WallTexts
 pub mod WordLists
 pub mod Written

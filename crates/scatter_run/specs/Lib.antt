@@ -1,9 +1,6 @@
 pub mod Completed
-pub mod DiagramText
-pub mod GivenWalls
 pub mod Outcome
 pub mod Reading
-pub mod TwoLines
-pub mod Walls
 pub mod Words
 pub mod Writing
+pub mod Laws

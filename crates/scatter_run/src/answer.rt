@@ -2,12 +2,11 @@
 ghost use Rattle.std.specs.Prelude.{◌≡◌, ◌≤◌, ◌<◌, ◌^◌, length, codes, decimal, [], ◌∷◌, Some, None, IfOk, string_bytes};
 ghost use Rattle.scatter_text.specs.Grammar.{kind_word};
 ghost use Rattle.scatter_text.specs.Limits.{limit_word};
-ghost use Rattle.scatter_run.specs.Outcome.{fault_text, limit_at, IsJobOutcome};
+ghost use Rattle.scatter_run.specs.Outcome.{fault_text, IsJobOutcome};
 
 use crate::completing::complete;
-use crate::printing::push_unsigned;
 use crate::status::Status;
-use scatter_text::{LimitKind, TextFault, TextFile, TextKind, check_limits, read_text};
+use scatter_text::{LimitKind, TextFault, TextKind, check_limits, read_text};
 use std::alloc::{AllocError, Global};
 
 /// A status with the text that goes with it.
@@ -18,22 +17,14 @@ pub(crate) struct Answer {
 }
 
 /// What `complete` answers on these bytes.
-pub(crate) fn answer_to(
-    alloc: Global,
-    order: u32,
-    workers: u32,
-    bytes: &[u8],
-) -> Result<Answer, AllocError>
+pub(crate) fn answer_to(alloc: Global, order: u32, bytes: &[u8]) -> Result<Answer, AllocError>
     requires short { length bytes.now ≤ 2 ^ 20 }
     requires order { order ≤ 24 }
-    ensures { IfOk result (λ a. IsJobOutcome order workers bytes.now a.status (string_bytes a.text)) }
+    ensures { IfOk result (λ a. IsJobOutcome order bytes.now a.status (string_bytes a.text)) }
 {
     match read_text(alloc, bytes) {
-        Ok(file) => match limit_of(&file, order, workers) {
-            None => Ok(Answer {
-                status: Status::Done,
-                text: complete(alloc, &file, order)?,
-            }),
+        Ok(file) => match check_limits(&file, order) {
+            None => complete(alloc, &file, order),
             Some(which) => Ok(Answer {
                 status: Status::Limit { which },
                 text: limit_fault(alloc, which)?,
@@ -47,24 +38,12 @@ pub(crate) fn answer_to(
     }
 }
 
-/// The first limit that a file passes with these numbers.
-fn limit_of(file: &TextFile, order: u32, workers: u32) -> Option<LimitKind>
-    requires { order ≤ 24 }
-    ensures { result ≡ limit_at file.now order workers }
-{
-    match check_limits(file, order) {
-        Some(which) => Some(which),
-        None if workers > 1 => Some(LimitKind::Unbuilt),
-        None => None,
-    }
-}
-
 /// The line of a bad text.
 fn text_fault(alloc: Global, line: u32, kind: TextKind) -> Result<String, AllocError>
     ensures { IfOk result (λ text. string_bytes text ≡ fault_text (codes "text" ∷ decimal line ∷ kind_word kind ∷ [])) }
 {
     let mut text = String::from_str(alloc, "fault text")?;
-    push_unsigned(&mut text, line)?;
+    write!(&mut text, " {line}")?;
     text.push_str(" ")?;
     text.push_str(kind.word())?;
     text.push_str("\n")?;

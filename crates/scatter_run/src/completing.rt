@@ -1,53 +1,36 @@
 //! The job `complete` on the values of a file.
 ghost use Rattle.std.specs.Prelude.{◌≡◌, ◌≤◌, None, IfOk, string_bytes};
-ghost use Rattle.std.specs.Option.{option_to_list};
 ghost use Rattle.scatter_text.specs.Limits.{limit_of};
-ghost use Rattle.scatter_run.specs.Completed.{IsCompletedText};
-ghost use Rattle.scatter_run.specs.TwoLines.{IsSmallWall, IsSmallLine, AreRays, IsPrinted};
+ghost use Rattle.scatter_run.specs.Outcome.{IsEnded, ends_with};
 
-use crate::lines::cut_wall;
-use crate::printing::print_diagram;
-use crate::walls::{Wall, ray_of};
-use scatter_text::{LineRow, TextFile};
+use crate::answer::Answer;
+use crate::status::Status;
+use scatter_diagram::StopCause;
+use scatter_step::complete_plain;
+use scatter_text::{TextFile, initial_of, write_diagram};
 use std::alloc::{AllocError, Global};
 
-/// The rays of the completion of two walls at an order, one at most.
-fn rays_of(u: &Wall, v: &Wall, order: u32) -> Option<Wall>
-    requires low { order ≤ 2 }
-    requires u { IsSmallWall u.now }
-    requires v { IsSmallWall v.now }
-    ensures { AreRays order u.now v.now (option_to_list result) }
+/// The status of a completion with the first stop, if there is one.
+fn status_of(stop: Option<(u32, StopCause)>) -> Status
+    ensures { ends_with stop ≡ result }
 {
-    if order == 2 { ray_of(u, v) } else { None }
-}
-
-/// The text of two lines, truncated to the order, and of their ray.
-fn print_two(
-    alloc: Global,
-    vars: u32,
-    order: u32,
-    first: &LineRow,
-    second: &LineRow,
-) -> Result<String, AllocError>
-    requires low { order ≤ 2 }
-    requires vars { vars ≤ 8 }
-    requires first { IsSmallLine first.now }
-    requires second { IsSmallLine second.now }
-    ensures { IfOk result (λ text. IsPrinted vars order first.now second.now (string_bytes text)) }
-{
-    let u = cut_wall(first, order);
-    let v = cut_wall(second, order);
-    match rays_of(&u, &v, order) {
-        Some(ray) => print_diagram(alloc, vars, order, &[u, v], &[ray]),
-        None => print_diagram(alloc, vars, order, &[u, v], &[]),
+    match stop {
+        None => Status::Done,
+        Some((order, cause)) => Status::Stopped { order, cause },
     }
 }
 
-/// The text of the completion of a file's lines at an order.
-pub(crate) fn complete(alloc: Global, file: &TextFile, order: u32) -> Result<String, AllocError>
-    requires { limit_of file.now order ≡ None }
-    ensures { IfOk result (λ text. IsCompletedText file.now order (string_bytes text)) }
+/// What `complete` answers on a file that passes no limit.
+pub(crate) fn complete(alloc: Global, file: &TextFile, order: u32) -> Result<Answer, AllocError>
+    requires order { order ≤ 24 }
+    requires within { limit_of file.now order ≡ None }
+    ensures { IfOk result (λ a. IsEnded file.now order a.status (string_bytes a.text)) }
 {
-    let lines = file.lines.as_slice();
-    print_two(alloc, file.vars as u32, order, &lines[0], &lines[1])
+    let initial = initial_of(alloc, file)?;
+    let outcome = complete_plain(alloc, &initial, order)?;
+    let text = write_diagram(alloc, outcome.last.diagram(), initial.vars(), outcome.stop)?;
+    Ok(Answer {
+        status: status_of(outcome.stop),
+        text,
+    })
 }

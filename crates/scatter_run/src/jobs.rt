@@ -1,7 +1,8 @@
 //! From words and bytes to the status and the text that is written.
-ghost use Rattle.std.specs.Prelude.{◌≡◌, ◌≤◌, ◌<◌, ◌-◌, ◌^◌, ◌⊎◌, ℕ, Some, None, [], IfSome, IfOk, OnErr, string_bytes};
+ghost use Rattle.std.specs.Prelude.{◌≡◌, ◌≤◌, ◌<◌, ◌-◌, ◌^◌, ◌⊎◌, ℕ, List, Some, None, [], IfSome, IfOk, OnErr, string_bytes};
 ghost use Rattle.outside_io.specs.Outside.{Rose};
 ghost use Rattle.scatter_run.specs.Words.{IsComplete, word_bytes};
+ghost use Rattle.scatter_run.specs.Writing.{IsWritten};
 ghost use Rattle.scatter_run.specs.Outcome.{IsJobOutcome, IsOutcome, IsAccepted, IsVerdict, SaysRead, HasWritten, HasWrittenPart, IsDue, IsAnswerTo, IsGiven, read_fault_text, words_fault_text};
 
 use crate::answer::{Answer, answer_to, limit_fault};
@@ -31,12 +32,18 @@ pub fn run<R: Threads + Sync, S: Source, K: Sink, G: Gate>(
     // The status is that of the outcome of words and bytes, and the outcome's text was written.
     ensures outcome { IfSome (S.left source.old) (λ bytes. IsVerdict result
         → HasWritten (K.held sink.old) (K.held sink.new) (IsOutcome (word_bytes words.now) bytes result)) }
+
+    // It is the only outcome of words and bytes, for any number of workers.
+    ensures one { IfSome (S.left source.old) (λ bytes. IsVerdict result → (status : Status) (text : List ℕ) → IsOutcome (word_bytes words.now) bytes status text
+        → (status ≡ result) × IsWritten (K.held sink.old) (K.held sink.new) text) }
+
+    // Words are refused exactly where they name no job.
     ensures words { result ≡ Status.Words → (order workers : ℕ) → IsComplete (word_bytes words.now) order workers → ⊥ }
     ensures no_job { ((order workers : ℕ) → IsComplete (word_bytes words.now) order workers → ⊥)
         → (result ≡ Status.Words) ⊎ ((result ≡ Status.WriteFault) ⊎ (result ≡ Status.Memory)) }
 
     // Where nothing is wrong and nothing failed, all is done, or memory was wanting.
-    ensures complete { IfSome (S.left source.old) (λ bytes. (order workers : ℕ) → IsComplete (word_bytes words.now) order workers → IsAccepted order workers bytes
+    ensures complete { IfSome (S.left source.old) (λ bytes. (order workers : ℕ) → IsComplete (word_bytes words.now) order workers → IsAccepted order bytes
         → S.faults source.new ≡ S.faults source.old → K.faults sink.new ≡ K.faults sink.old → (result ≡ Status.Done) ⊎ (result ≡ Status.Memory)) }
 
     // A fault is answered only where it was counted.
@@ -79,11 +86,11 @@ pub fn complete_job<S: Source, K: Sink, G: Gate>(
 
     // The status is that of the outcome of the bytes, and the outcome's text was written.
     ensures outcome { IfSome (S.left source.old) (λ bytes. IsVerdict result
-        → HasWritten (K.held sink.old) (K.held sink.new) (IsJobOutcome order workers bytes result)) }
+        → HasWritten (K.held sink.old) (K.held sink.new) (IsJobOutcome order bytes result)) }
     ensures no_words { result ≡ Status.Words → ⊥ }
 
     // Where nothing is wrong and nothing failed, all is done, or memory was wanting.
-    ensures complete { IfSome (S.left source.old) (λ bytes. IsAccepted order workers bytes
+    ensures complete { IfSome (S.left source.old) (λ bytes. IsAccepted order bytes
         → S.faults source.new ≡ S.faults source.old → K.faults sink.new ≡ K.faults sink.old → (result ≡ Status.Done) ⊎ (result ≡ Status.Memory)) }
 
     // A fault is answered only where it was counted.
@@ -91,7 +98,7 @@ pub fn complete_job<S: Source, K: Sink, G: Gate>(
     ensures read_text { result ≡ Status.ReadFault → HasWritten (K.held sink.old) (K.held sink.new) (λ text. text ≡ read_fault_text) }
     ensures write { result ≡ Status.WriteFault → Rose (K.faults sink.old) (K.faults sink.new) }
     ensures write_text { result ≡ Status.WriteFault → HasWrittenPart (K.held sink.old) (K.held sink.new)
-        (IsDue (IsJobOutcome order workers) (S.left source.old) (S.left source.new) (S.faults source.old) (S.faults source.new)) }
+        (IsDue (IsJobOutcome order) (S.left source.old) (S.left source.new) (S.faults source.old) (S.faults source.new)) }
 
     // Want of memory comes before the first write.
     ensures memory { result ≡ Status.Memory → K.held sink.new ≡ K.held sink.old }
@@ -99,24 +106,19 @@ pub fn complete_job<S: Source, K: Sink, G: Gate>(
     // The source was read to its end.
     ensures to_end { IfSome (S.left source.old) (λ bytes. SaysRead result → S.left source.new ≡ Some []) }
 {
-    match take_answer(alloc, order, workers, source) {
+    match take_answer(alloc, order, source) {
         Ok(answer) => give(sink, &answer),
         Err(_) => Status::Memory,
     }
 }
 
 /// Reads the source, and answers what was read.
-fn take_answer<S: Source>(
-    alloc: Global,
-    order: u32,
-    workers: u32,
-    source: &mut S,
-) -> Result<Answer, AllocError>
+fn take_answer<S: Source>(alloc: Global, order: u32, source: &mut S) -> Result<Answer, AllocError>
     requires { order ≤ 24 }
-    ensures { IfOk result (λ a. IsAnswerTo order workers (S.left source.old) (S.left source.new) (S.faults source.old) (S.faults source.new) a.status (string_bytes a.text)) }
+    ensures { IfOk result (λ a. IsAnswerTo order (S.left source.old) (S.left source.new) (S.faults source.old) (S.faults source.new) a.status (string_bytes a.text)) }
 {
     match read_input(alloc, source) {
-        Ok(bytes) => answer_to(alloc, order, workers, bytes.as_slice()),
+        Ok(bytes) => answer_to(alloc, order, bytes.as_slice()),
         Err(InputFault::Failed) => Ok(Answer {
             status: Status::ReadFault,
             text: String::from_str(alloc, "fault read\n")?,

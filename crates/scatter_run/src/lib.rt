@@ -4,15 +4,14 @@
 mod answer;
 mod completing;
 mod jobs;
-mod lines;
-mod printing;
+mod laws;
 mod reading;
 mod status;
-mod walls;
 mod words;
 mod writing;
 
 pub use jobs::{complete_job, run};
+pub use laws::one_outcome;
 pub use status::Status;
 
 #[cfg(test)]

@@ -1,6 +1,7 @@
 //! How a run ended.
 ghost use Rattle.std.specs.Prelude.{◌≡◌};
 
+use scatter_diagram::StopCause;
 use scatter_text::{LimitKind, TextKind};
 
 /// How a run ended. `code` is the program's exit status.
@@ -14,6 +15,8 @@ pub enum Status {
     Text { line: u32, kind: TextKind },
     /// The input passes a limit.
     Limit { which: LimitKind },
+    /// An order is stopped: the text has the completion of the order before.
+    Stopped { order: u32, cause: StopCause },
     /// A read failed.
     ReadFault,
     /// A write failed: the sink has a part of the text.
@@ -34,6 +37,7 @@ impl Status {
             Status::Words => 1,
             Status::Text { .. } => 2,
             Status::Limit { .. } => 3,
+            Status::Stopped { .. } => 4,
             Status::ReadFault => 5,
             Status::WriteFault => 6,
             Status::Memory => 7,

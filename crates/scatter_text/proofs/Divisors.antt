@@ -1,8 +1,11 @@
--- The greatest common divisor of the specifications is one.
+-- The greatest common divisor of the specifications is one; coprime numbers.
 use Rattle.std.proofs.Common.{◌≡◌, ℕ, zero, suc, ◌≤◌, ◌<◌, ◌%◌, ◌==◌, Bool, true, false, refl, arith, subst}
 use Rattle.std.proofs.Math.Nat.{mod-lt, one-dvd, eq-zero_of_zero-dvd}
 use Rattle.std.specs.Int.{◌∣◌, IsGcd}
-use Rattle.std.proofs.lemmas.Nat.Gcd.{IsGcd-from_zero, IsGcd-from_mod, dvd_antisymm}
+use Rattle.std.specs.Prelude.{nat_abs}
+use Rattle.std.proofs.lemmas.Nat.Gcd.{IsGcd-from_zero, IsGcd-from_mod, dvd_antisymm, dvd_refl}
+use Rattle.scattering.specs.Series.{Exp}
+use Rattle.scattering.specs.Plane.{IsDirection}
 use Rattle.scatter_text.specs.Limits.{gcd, gcd_within}
 use Rattle.scatter_text.specs.Values.{AreCoprime}
 
@@ -34,3 +37,6 @@ gcd-positive a b positive = at (gcd a b) (gcd-is a b).0
     at : (g : ℕ) → g ∣ a → 0 < g
     at zero h = let none : a ≡ 0 = eq-zero_of_zero-dvd h in absurd (omega arith)
     at (suc g) h = omega arith
+
+pub coprime-direction : (d : Exp) → AreCoprime (nat_abs d.a) (nat_abs d.b) → IsDirection d
+coprime-direction d h = (one-dvd (nat_abs d.a), one-dvd (nat_abs d.b), λ k p q. subst (λ n. k ∣ n) (h k p q) (dvd_refl k))

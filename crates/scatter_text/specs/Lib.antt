@@ -3,3 +3,8 @@ pub mod Grammar
 pub mod Limits
 pub mod Reading
 pub mod Stages
+pub mod DiagramText
+pub mod GivenWalls
+pub mod Laws
+pub mod LimitedLines
+pub mod PrintedRows

@@ -1,12 +1,12 @@
 -- The limits of what is accepted, in the order in which they are tested.
-use Rattle.std.specs.Prelude.{ℕ, zero, suc, ◌+◌, ◌*◌, ◌/◌, ◌%◌, ◌^◌, ◌==◌, nat_lt, nat_le, Bool, true, false, not, ◌&&◌, ◌||◌, List, [], ◌∷◌, length, Option, option_map, find, nat_abs, ℤ, pos, codes}
-use Rattle.std.specs.List.{list_any, list_all}
+use Rattle.std.specs.Prelude.{◌≡◌, ℕ, zero, suc, ◌+◌, ◌*◌, ◌/◌, ◌%◌, ◌^◌, ◌==◌, nat_lt, Bool, true, false, ◌||◌, List, [], ◌∷◌, length, Option, option_map, find, nat_abs, ℤ, pos, codes}
+use Rattle.std.specs.List.{list_any}
 use Rattle.scatter_text.specs.declared.file.Coordinate.{Coordinate}
 use Rattle.scatter_text.specs.declared.file.TermRow.{TermRow}
 use Rattle.scatter_text.specs.declared.file.LineRow.{LineRow}
 use Rattle.scatter_text.specs.declared.file.TextFile.{TextFile}
 use Rattle.scatter_text.specs.declared.fault.LimitKind.{LimitKind}
-use Rattle.scatter_text.specs.declared.fault.LimitKind.TheVariants.{Bytes, Vars, Size, Lines, Terms, Coefficient, Exponent, Power, Place, Unbuilt}
+use Rattle.scatter_text.specs.declared.fault.LimitKind.TheVariants.{Bytes, Vars, Size, Lines, Terms, Coefficient, Exponent, Power, Place}
 
 -- n over k, by Pascal's rule
 abbrev pub binomial : ℕ → ℕ → ℕ
@@ -61,30 +61,34 @@ is_far x y =
     let w = nat_abs x.den * nat_abs y.den / gcd (nat_abs x.den) (nat_abs y.den) in
     nat_lt (2 ^ 40) w || nat_lt (2 ^ 40) (nat_abs x.num * (w / nat_abs x.den)) || nat_lt (2 ^ 40) (nat_abs y.num * (w / nat_abs y.den))
 
--- a line through 0 0 with at most one term
-unfoldable pub is_simple : LineRow → Bool
-is_simple l = (nat_abs l.x.num == 0) && (nat_abs l.y.num == 0) && nat_le (length l.terms) 1
-
--- what is computed so far: two simple lines, to an order of at most 2
-unfoldable pub is_built : List LineRow → ℕ → Bool
-is_built lines order = nat_le order 2 && (length lines == 2) && list_all is_simple lines
-
 -- each limit with the test of whether it is passed; a text's bytes are counted before it is read
-abbrev pub limits_of : TextFile → ℕ → List (LimitKind × Bool)
-limits_of file order =
-    (Vars, has_many_vars file.vars) ∷
-    (Size, has_many_monomials order file.vars) ∷
-    (Lines, has_many_lines file.lines) ∷
-    (Terms, has_many_terms file.lines) ∷
-    (Coefficient, list_any has_large_coefficient file.lines) ∷
-    (Exponent, list_any has_large_exponent file.lines) ∷
-    (Power, list_any has_large_power file.lines) ∷
-    (Place, list_any (λ l. is_far l.x l.y) file.lines) ∷
-    (Unbuilt, not (is_built file.lines order)) ∷ []
+abbrev pub limits_by : ℤ → List LineRow → ℕ → List (LimitKind × Bool)
+limits_by vars lines order =
+    (Vars, has_many_vars vars) ∷
+    (Size, has_many_monomials order vars) ∷
+    (Lines, has_many_lines lines) ∷
+    (Terms, has_many_terms lines) ∷
+    (Coefficient, list_any has_large_coefficient lines) ∷
+    (Exponent, list_any has_large_exponent lines) ∷
+    (Power, list_any has_large_power lines) ∷
+    (Place, list_any (λ l. is_far l.x l.y) lines) ∷ []
 
--- the first limit that is passed
+-- the first limit that is passed, by the number of variables and the lines
+abbrev pub limit_by : ℤ → List LineRow → ℕ → Option LimitKind
+limit_by vars lines order = option_map (λ limit. limit.0) (find (λ limit. limit.1) (limits_by vars lines order))
+
 abbrev pub limit_of : TextFile → ℕ → Option LimitKind
-limit_of file order = option_map (λ limit. limit.0) (find (λ limit. limit.1) (limits_of file order))
+limit_of file order = limit_by file.vars file.lines order
+
+-- what holds of a file that passes no limit at any order, so without the limit on monomials
+pub record IsWithinLimits (file : TextFile) : Type 0 where
+  pub vars : has_many_vars file.vars ≡ false
+  pub lines : has_many_lines file.lines ≡ false
+  pub terms : has_many_terms file.lines ≡ false
+  pub coefficients : list_any has_large_coefficient file.lines ≡ false
+  pub exponents : list_any has_large_exponent file.lines ≡ false
+  pub powers : list_any has_large_power file.lines ≡ false
+  pub points : list_any (λ l. is_far l.x l.y) file.lines ≡ false
 
 abbrev pub limit_word : LimitKind → List ℕ
 limit_word Bytes = codes "bytes"
@@ -96,4 +100,3 @@ limit_word Coefficient = codes "coefficient"
 limit_word Exponent = codes "exponent"
 limit_word Power = codes "power"
 limit_word Place = codes "point"
-limit_word Unbuilt = codes "unbuilt"

@@ -76,8 +76,6 @@ pub enum LimitKind {
     Power,
     /// A line's point that isn't near: over the least common denominator, a number above 2^40.
     Place,
-    /// What this version doesn't compute yet.
-    Unbuilt,
 }
 
 impl LimitKind {
@@ -98,7 +96,6 @@ impl LimitKind {
             LimitKind::Exponent => "exponent",
             LimitKind::Power => "power",
             LimitKind::Place => "point",
-            LimitKind::Unbuilt => "unbuilt",
         }
     }
 }

@@ -1,7 +1,7 @@
 // The limits of what is accepted.
 ghost use Rattle.std.specs.Prelude.{◌≡◌, pos, nat_abs, ◌≤ℤ◌, All, ◌+◌, ◌≤◌, ◌||◌};
-ghost use Rattle.std.specs.List.{list_any, list_all};
-ghost use Rattle.scatter_text.specs.Limits.{binomial, limit_of, has_many_vars, has_many_monomials, has_many_lines, has_many_terms, has_large_coefficient, is_exponent_large, has_large_exponent, is_power_large, has_large_power, is_far, is_simple, is_built};
+ghost use Rattle.std.specs.List.{list_any};
+ghost use Rattle.scatter_text.specs.Limits.{binomial, limit_of, has_many_vars, has_many_monomials, has_many_lines, has_many_terms, has_large_coefficient, is_exponent_large, has_large_exponent, is_power_large, has_large_power, is_far};
 
 use crate::divisor::greatest_divisor;
 use crate::fault::LimitKind;
@@ -45,8 +45,6 @@ pub fn check_limits(file: &TextFile, order: u32) -> Option<LimitKind>
         Some(LimitKind::Power)
     } else if have_far_point(lines) {
         Some(LimitKind::Place)
-    } else if !is_built(lines, order) {
-        Some(LimitKind::Unbuilt)
     } else {
         None
     }
@@ -187,24 +185,4 @@ fn is_far(x: Coordinate, y: Coordinate) -> bool
     w > MAX_NEAR
         || x.num.unsigned_abs() as u128 * (w / p as u128) > MAX_NEAR
         || y.num.unsigned_abs() as u128 * (w / q as u128) > MAX_NEAR
-}
-
-#[tactic(auto, unfolding(crate::specs::Limits::is_built))]
-fn is_built(lines: &[LineRow], order: u32) -> bool
-    ensures { result ≡ is_built lines.now order }
-{
-    order <= 2 && lines.len() == 2 && are_simple(lines)
-}
-
-fn are_simple(lines: &[LineRow]) -> bool
-    ensures { result ≡ list_all is_simple lines.now }
-{
-    lines.iter().all(is_simple)
-}
-
-#[tactic(auto, unfolding(crate::specs::Limits::is_simple))]
-fn is_simple(line: &LineRow) -> bool
-    ensures { result ≡ is_simple line.now }
-{
-    line.x.num == 0 && line.y.num == 0 && line.terms.as_slice().len() <= 1
 }

@@ -35,10 +35,11 @@ pub fn read_text(alloc: Global, bytes: &[u8]) -> Result<TextFile, TextFault>
     finish(stage, rest, number)
 }
 
-/// No text has both a file and a fault, nor two faults.
+/// No text has both a file and a fault, nor two faults, nor two files.
 pub fn one_outcome()
     ensures file_or_fault { (bytes : List ℕ) (file : TextFile) (line : ℕ) (kind : TextKind) → IsTextOf bytes file → IsTextFault bytes line kind → ⊥ }
     ensures one_fault { (bytes : List ℕ) (l m : ℕ) (k j : TextKind) → IsTextFault bytes l k → IsTextFault bytes m j → (l ≡ m) × (k ≡ j) }
+    ensures one_file { (bytes : List ℕ) (f g : TextFile) → IsTextOf bytes f → IsTextOf bytes g → (f.vars ≡ g.vars) × (f.lines ≡ g.lines) }
 {}
 
 /// A line's fault as that of a text.

@@ -1,0 +1,261 @@
+-- Words and bytes have one outcome: one status and one text.
+use Rattle.std.proofs.Common.{◌≡◌, ◌≢◌, ℕ, zero, suc, refl, sym, ◌∙◌, ap, subst, ◌≤◌, ◌<◌, ◌^◌, ◌⊎◌, inl, inr, List, [], ◌∷◌, ◌++◌, length, arith}
+use Rattle.std.specs.Prelude.{pos, Option, Some, None, IfSome, codes, decimal}
+use Rattle.std.specs.List.{AllZip}
+use Rattle.scattering.specs.Collections.{Every}
+use Rattle.scattering.specs.Wall.{Wall, IsWall, Diagram, walls, cut_walls}
+use Rattle.scattering.specs.Completion.{IsCompletion}
+use Rattle.scattering.specs.Stops.{StopCause, PointTooLarge, WeightTooLarge, TooManyWalls, IsFirstStop, last_before}
+use Rattle.scattering.proofs.Lists.{Every-append}
+use Rattle.completion_theory.proofs.LowerOrders.{every-wall-cut, cut-cuts}
+use Rattle.completion_theory.proofs.UniqueCompletion.{completion_is_unique}
+use Rattle.completion_theory.proofs.UniqueStop.{first_stop_is_unique}
+use Rattle.completion_theory.proofs.CutGiven.{completion-to_cut, first_stop-to_cut}
+use Rattle.scatter_diagram.specs.declared.stop.StopCause.{StopCause as CodeCause}
+use Rattle.scatter_diagram.specs.declared.stop.StopCause.TheVariants as code
+use Rattle.scatter_diagram.specs.Stopped.{cause_of, stop_of}
+use Rattle.scatter_text.specs.declared.file.LineRow.{LineRow}
+use Rattle.scatter_text.specs.declared.file.TextFile.{TextFile}
+use Rattle.scatter_text.specs.declared.fault.LimitKind.{LimitKind}
+use Rattle.scatter_text.specs.declared.fault.LimitKind.TheVariants.{Bytes}
+use Rattle.scatter_text.specs.declared.fault.TextKind.{TextKind}
+use Rattle.scatter_text.specs.Grammar.{IsTextOf, IsTextFault, kind_word}
+use Rattle.scatter_text.specs.Limits.{limit_of, limit_by, limit_word}
+use Rattle.scatter_text.specs.DiagramText.{IsDiagramText}
+use Rattle.scatter_text.specs.GivenWalls.{IsWallOf}
+use Rattle.scatter_text.proofs.WithinLimits.{within-limits}
+use Rattle.scatter_text.proofs.InitialLines.{given-cut}
+use Rattle.scatter_text.proofs.Outcomes.{text_has_no_fault, fault_is_one}
+use Rattle.scatter_text.proofs.OneFile.{file_is_one}
+use Rattle.scatter_text.proofs.OneDiagramText.{walls-one, text-one}
+use Rattle.scatter_run.specs.declared.status.Status.{Status}
+use Rattle.scatter_run.specs.declared.status.Status.TheVariants.{Done, Words, Text, Limit, Stopped, ReadFault, WriteFault, Memory}
+use Rattle.scatter_run.specs.Completed.{IsCompletedText}
+use Rattle.scatter_run.specs.Words.{IsComplete}
+use Rattle.scatter_run.specs.Outcome.{IsJobOutcome, IsOutcome, IsVerdict, HasCompleted, HasWritten, IsGiven, PassesLimit, ends_with, fault_text, words_fault_text}
+use Rattle.scatter_run.specs.Writing.{IsWritten}
+use Rattle.scatter_run.proofs.Outcomes.{same_order, outcome_of}
+
+-- ---- what is completed
+
+pub last-low : (given : List Wall) (k : ℕ) (stop : Option (ℕ × StopCause)) → IsFirstStop given k stop → last_before k stop ≤ k
+last-low given k None h = omega arith
+last-low given k (Some (zero, c)) h = omega arith
+last-low given k (Some (suc n, c)) h = let l = h.0 in omega (arith, l)
+
+record Same (stop stop' : Option (ℕ × StopCause)) (text other : List ℕ) : Type 0 where
+  stops : stop ≡ stop'
+  texts : text ≡ other
+
+-- of one list of walls
+module _ (given : List Wall) (order vars : ℕ) (low : order ≤ 24) (proper : Every (IsWall 24) (cut_walls 24 given)) where
+  diagram-walls : (n : ℕ) (e : Diagram) → n ≤ 24 → IsCompletion given n e → Every (IsWall n) (walls e)
+  diagram-walls n e le c =
+      Every-append (IsWall n) e.initial e.rays
+      (subst (Every (IsWall n)) (cut-cuts n 24 le given ∙ sym c.initial) (every-wall-cut n 24 (cut_walls 24 given) proper)) c.proper
+
+  same-text : (n : ℕ) (e e' : Diagram) (stop : Option (ℕ × StopCause)) (text other : List ℕ) → n ≤ 24 → IsCompletion given n e → IsCompletion given n e'
+      → IsDiagramText vars n e stop text → IsDiagramText vars n e' stop other → text ≡ other
+  same-text n e e' stop text other le c c' t t' =
+      let one : e ≡ e' = completion_is_unique (cut_walls 24 given) n 24 e e' le proper (completion-to_cut given 24 n e le c) (completion-to_cut given 24 n e' le c') in
+      text-one vars n n e stop text other (diagram-walls n e le c) t (subst (λ (d : Diagram). IsDiagramText vars n d stop other) (sym one) t')
+
+  same : (stop stop' : Option (ℕ × StopCause)) (e e' : Diagram) (text other : List ℕ) → IsFirstStop given order stop → IsFirstStop given order stop'
+      → IsCompletion given (last_before order stop) e → IsCompletion given (last_before order stop') e'
+      → IsDiagramText vars (last_before order stop) e stop text → IsDiagramText vars (last_before order stop') e' stop' other → Same stop stop' text other
+  same stop stop' e e' text other f f' c c' t t' =
+      let s : stop ≡ stop' = first_stop_is_unique (cut_walls 24 given) order 24 stop stop' low proper (first_stop-to_cut given 24 order stop low f) (first_stop-to_cut given 24 order stop' low f') in
+      let le : last_before order stop ≤ 24 = let l = last-low given order stop f in omega (arith, l, low) in
+      record {
+        stops = s;
+        texts =
+            same-text (last_before order stop) e e' stop text other le c
+            (subst (λ (x : Option (ℕ × StopCause)). IsCompletion given (last_before order x) e') (sym s) c') t
+            (subst (λ (x : Option (ℕ × StopCause)). IsDiagramText vars (last_before order x) e' x other) (sym s) t');
+      }
+
+-- ---- two answers of one text
+
+pos-one : (m n : ℕ) → pos m ≡ pos n → m ≡ n
+pos-one m n e = cc
+
+completed-one : (order : ℕ) (bytes : List ℕ) (stop stop' : Option (ℕ × StopCause)) (text other : List ℕ) → order ≤ 24 → HasCompleted order stop bytes text → HasCompleted order stop' bytes other → Same stop stop' text other
+completed-one order bytes stop stop' text other low a b =
+    let p = a.completed in
+    let q = b.completed in
+    let f = file_is_one bytes a.file b.file a.reads b.reads in
+    let lines : AllZip IsWallOf a.file.lines q.given = subst (λ (rows : List LineRow). AllZip IsWallOf rows q.given) (sym f.1) q.lines in
+    let w : p.given ≡ q.given = walls-one a.file.vars a.file.lines p.given q.given a.file.valid p.lines lines in
+    let v : p.vars ≡ q.vars = pos-one p.vars q.vars (sym p.variables ∙ f.0 ∙ q.variables) in
+    same p.given order p.vars low (given-cut a.file p.given (within-limits a.file order a.within) p.lines) stop stop' p.diagram q.diagram text other p.first
+    (subst (λ (ws : List Wall). IsFirstStop ws order stop') (sym w) q.first) p.completion
+    (subst (λ (ws : List Wall). IsCompletion ws (last_before order stop') q.diagram) (sym w) q.completion) p.printed
+    (subst (λ (n : ℕ). IsDiagramText n (last_before order stop') q.diagram stop' other) (sym v) q.printed)
+
+limit-one : (bytes : List ℕ) (f g : TextFile) (order : ℕ) → IsTextOf bytes f → IsTextOf bytes g → limit_of f order ≡ limit_of g order
+limit-one bytes f g order a b =
+    let e = file_is_one bytes f g a b in
+    λ i. limit_by (e.0 i) (e.1 i) order
+
+-- ---- outcomes by what the bytes are
+
+abbrev IsTooLong : List ℕ → Status → List ℕ → Type 0
+IsTooLong bytes s text = (2 ^ 20 < length bytes) × (s ≡ Limit Bytes) × (text ≡ fault_text (codes "limit" ∷ limit_word Bytes ∷ []))
+
+abbrev IsFaulty : List ℕ → Status → List ℕ → Type 0
+IsFaulty bytes s text = (line : ℕ) × (kind : TextKind) × (length bytes ≤ 2 ^ 20) × IsTextFault bytes line kind × (s ≡ Text line kind) × (text ≡ fault_text (codes "text" ∷ decimal line ∷ kind_word kind ∷ []))
+
+abbrev IsLimited : ℕ → List ℕ → Status → List ℕ → Type 0
+IsLimited order bytes s text = (kind : LimitKind) × PassesLimit order kind bytes × (s ≡ Limit kind) × (text ≡ fault_text (codes "limit" ∷ limit_word kind ∷ []))
+
+abbrev IsDone : ℕ → List ℕ → Status → List ℕ → Type 0
+IsDone order bytes s text = (stop : Option (ℕ × CodeCause)) × HasCompleted order (stop_of stop) bytes text × (s ≡ ends_with stop)
+
+abbrev Is : ℕ → List ℕ → Status → List ℕ → Type 0
+Is order bytes s text = IsTooLong bytes s text ⊎ (IsFaulty bytes s text ⊎ (IsLimited order bytes s text ⊎ IsDone order bytes s text))
+
+is : (order : ℕ) (bytes : List ℕ) (s : Status) (text : List ℕ) → IsJobOutcome order bytes s text → Is order bytes s text
+is order bytes Done text h = inr (inr (inr (None, h, refl)))
+is order bytes Words text h = absurd h
+is order bytes (Text line kind) text h = inr (inl (line, kind, h.short, h.fault, refl, h.says))
+is order bytes (Limit kind) text h = go h.0
+  where
+    go : ((kind ≡ Bytes) × (2 ^ 20 < length bytes)) ⊎ PassesLimit order kind bytes → Is order bytes (Limit kind) text
+    go (inl l) = inl (l.1, ap (λ (k : LimitKind). Limit k) l.0, h.1 ∙ ap (λ (k : LimitKind). fault_text (codes "limit" ∷ limit_word k ∷ [])) l.0)
+    go (inr p) = inr (inr (inl (kind, p, refl, h.1)))
+is order bytes (Stopped at cause) text h = inr (inr (inr (Some (at, cause), h, refl)))
+is order bytes ReadFault text h = absurd h
+is order bytes WriteFault text h = absurd h
+is order bytes Memory text h = absurd h
+
+record One (s t : Status) (text other : List ℕ) : Type 0 where
+  same-status : s ≡ t
+  same-text : text ≡ other
+
+cause-one : (c d : CodeCause) → cause_of c ≡ cause_of d → c ≡ d
+cause-one code.PointTooLarge code.PointTooLarge e = refl
+cause-one code.PointTooLarge code.WeightTooLarge e = absurd (cc)
+cause-one code.PointTooLarge code.TooManyWalls e = absurd (cc)
+cause-one code.WeightTooLarge code.PointTooLarge e = absurd (cc)
+cause-one code.WeightTooLarge code.WeightTooLarge e = refl
+cause-one code.WeightTooLarge code.TooManyWalls e = absurd (cc)
+cause-one code.TooManyWalls code.PointTooLarge e = absurd (cc)
+cause-one code.TooManyWalls code.WeightTooLarge e = absurd (cc)
+cause-one code.TooManyWalls code.TooManyWalls e = refl
+
+some-one : (a b : ℕ × StopCause) → Some a ≡ Some b → a ≡ b
+some-one a b e = cc
+
+stop-one : (a b : Option (ℕ × CodeCause)) → stop_of a ≡ stop_of b → ends_with a ≡ ends_with b
+stop-one None None e = refl
+stop-one None (Some t) e = absurd (none (t.0, cause_of t.1) e)
+  where
+    none : (x : ℕ × StopCause) → None ≡ Some x → ⊥
+    none x e = cc
+stop-one (Some s) None e = absurd (none (s.0, cause_of s.1) (sym e))
+  where
+    none : (x : ℕ × StopCause) → None ≡ Some x → ⊥
+    none x e = cc
+stop-one (Some s) (Some t) e =
+    let p = some-one (s.0, cause_of s.1) (t.0, cause_of t.1) e in
+    let n : s.0 ≡ t.0 = ap (λ (x : ℕ × StopCause). x.0) p in
+    let c : s.1 ≡ t.1 = cause-one s.1 t.1 (ap (λ (x : ℕ × StopCause). x.1) p) in
+    λ i. Stopped (n i) (c i)
+
+none-is-some : (k : LimitKind) → None ≡ Some k → ⊥
+none-is-some k e = cc
+
+same-kind : (k j : LimitKind) → Some k ≡ Some j → k ≡ j
+same-kind k j e = cc
+
+-- none of the four kinds of outcome goes with another
+module _ (order : ℕ) (bytes : List ℕ) where
+  long-short : 2 ^ 20 < length bytes → length bytes ≤ 2 ^ 20 → ⊥
+  long-short l s = omega (arith, l, s)
+
+  limited-done : (kind : LimitKind) (stop : Option (ℕ × StopCause)) (text : List ℕ) → PassesLimit order kind bytes → HasCompleted order stop bytes text → ⊥
+  limited-done kind stop text p c = none-is-some kind (sym c.within ∙ limit-one bytes c.file p.file order c.reads p.reads ∙ p.passed)
+
+  one : (s t : Status) (text other : List ℕ) → order ≤ 24 → Is order bytes s text → Is order bytes t other → One s t text other
+  one s t text other low (inl a) (inl b) = record { same-status = a.1 ∙ sym b.1; same-text = a.2 ∙ sym b.2 }
+  one s t text other low (inl a) (inr (inl b)) = absurd (long-short a.0 b.2)
+  one s t text other low (inl a) (inr (inr (inl b))) = absurd (long-short a.0 b.1.short)
+  one s t text other low (inl a) (inr (inr (inr b))) = absurd (long-short a.0 b.1.short)
+  one s t text other low (inr (inl a)) (inl b) = absurd (long-short b.0 a.2)
+  one s t text other low (inr (inl a)) (inr (inl b)) =
+      let e = fault_is_one bytes a.0 b.0 a.1 b.1 a.3 b.3 in
+      record {
+        same-status = a.4 ∙ (λ i. Text (e.0 i) (e.1 i)) ∙ sym b.4;
+        same-text = a.5 ∙ (λ i. fault_text (codes "text" ∷ decimal (e.0 i) ∷ kind_word (e.1 i) ∷ [])) ∙ sym b.5;
+      }
+  one s t text other low (inr (inl a)) (inr (inr (inl b))) = absurd (text_has_no_fault bytes b.1.file a.0 a.1 b.1.reads a.3)
+  one s t text other low (inr (inl a)) (inr (inr (inr b))) = absurd (text_has_no_fault bytes b.1.file a.0 a.1 b.1.reads a.3)
+  one s t text other low (inr (inr (inl a))) (inl b) = absurd (long-short b.0 a.1.short)
+  one s t text other low (inr (inr (inl a))) (inr (inl b)) = absurd (text_has_no_fault bytes a.1.file b.0 b.1 a.1.reads b.3)
+  one s t text other low (inr (inr (inl a))) (inr (inr (inl b))) =
+      let e : a.0 ≡ b.0 = same-kind a.0 b.0 (sym a.1.passed ∙ limit-one bytes a.1.file b.1.file order a.1.reads b.1.reads ∙ b.1.passed) in
+      record {
+        same-status = a.2 ∙ ap (λ (k : LimitKind). Limit k) e ∙ sym b.2;
+        same-text = a.3 ∙ ap (λ (k : LimitKind). fault_text (codes "limit" ∷ limit_word k ∷ [])) e ∙ sym b.3;
+      }
+  one s t text other low (inr (inr (inl a))) (inr (inr (inr b))) = absurd (limited-done a.0 (stop_of b.0) other a.1 b.1)
+  one s t text other low (inr (inr (inr a))) (inl b) = absurd (long-short b.0 a.1.short)
+  one s t text other low (inr (inr (inr a))) (inr (inl b)) = absurd (text_has_no_fault bytes a.1.file b.0 b.1 a.1.reads b.3)
+  one s t text other low (inr (inr (inr a))) (inr (inr (inl b))) = absurd (limited-done b.0 (stop_of a.0) text b.1 a.1)
+  one s t text other low (inr (inr (inr a))) (inr (inr (inr b))) =
+      let e = completed-one order bytes (stop_of a.0) (stop_of b.0) text other low a.1 b.1 in
+      record { same-status = a.2 ∙ stop-one a.0 b.0 e.stops ∙ sym b.2; same-text = e.texts }
+
+-- ---- outcomes of words
+
+abbrev HasNoJob : List (List ℕ) → Status → List ℕ → Type 0
+HasNoJob words s text = ((order workers : ℕ) → IsComplete words order workers → ⊥) × (s ≡ Words) × (text ≡ fault_text (codes "words" ∷ []))
+
+abbrev HasJob : List (List ℕ) → List ℕ → Status → List ℕ → Type 0
+HasJob words bytes s text = (order workers : ℕ) × IsComplete words order workers × IsJobOutcome order bytes s text
+
+job-or-none : (words : List (List ℕ)) (bytes : List ℕ) (s : Status) (text : List ℕ) → IsOutcome words bytes s text → HasNoJob words s text ⊎ HasJob words bytes s text
+job-or-none words bytes Done text h = inr h
+job-or-none words bytes Words text h = inl (h.0, refl, h.1)
+job-or-none words bytes (Text line kind) text h = inr h
+job-or-none words bytes (Limit kind) text h = inr h
+job-or-none words bytes (Stopped at cause) text h = inr h
+job-or-none words bytes ReadFault text h = inr h
+job-or-none words bytes WriteFault text h = inr h
+job-or-none words bytes Memory text h = inr h
+
+pub outcome-one : (words : List (List ℕ)) (bytes : List ℕ) (s t : Status) (text other : List ℕ) → IsOutcome words bytes s text → IsOutcome words bytes t other → (s ≡ t) × (text ≡ other)
+outcome-one words bytes s t text other a b = go (job-or-none words bytes s text a) (job-or-none words bytes t other b)
+  where
+    go : HasNoJob words s text ⊎ HasJob words bytes s text → HasNoJob words t other ⊎ HasJob words bytes t other → (s ≡ t) × (text ≡ other)
+    go (inl x) (inl y) = (x.1 ∙ sym y.1, x.2 ∙ sym y.2)
+    go (inl x) (inr y) = absurd (x.0 y.0 y.1 y.2)
+    go (inr x) (inl y) = absurd (y.0 x.0 x.1 x.2)
+    go (inr x) (inr y) =
+        let e : x.0 ≡ y.0 = same_order words x.0 x.1 y.0 y.1 x.2 y.2 in
+        let o = one x.0 bytes s t text other x.2.order_most (is x.0 bytes s text x.3) (is x.0 bytes t other (subst (λ (n : ℕ). IsJobOutcome n bytes t other) (sym e) y.3)) in
+        (o.same-status, o.same-text)
+
+-- ---- what was written is the text of any outcome
+
+pub written-one : (words : List (List ℕ)) (left held after : Option (List ℕ)) (result : Status) → IfSome left (λ bytes. IsVerdict result → HasWritten held after (IsOutcome words bytes result))
+    → IfSome left (λ bytes. IsVerdict result → (s : Status) (text : List ℕ) → IsOutcome words bytes s text → (s ≡ result) × IsWritten held after text)
+written-one words None held after result h = tt
+written-one words (Some bytes) held after result h = λ v s text o.
+    let w = h v in
+    let e = outcome-one words bytes s result text w.0 o w.1 in
+    (e.0, subst (λ (t : List ℕ). IsWritten held after t) (sym e.1) w.2)
+
+pub outcome_for : (words : List (List ℕ)) (order workers : ℕ) (left held after : Option (List ℕ)) (result : Status) → IsComplete words order workers
+    → IfSome left (λ bytes. IsVerdict result → HasWritten held after (IsJobOutcome order bytes result))
+    → IfSome left (λ bytes. IsVerdict result → HasWritten held after (IsOutcome words bytes result))
+outcome_for words order workers None held after result c h = tt
+outcome_for words order workers (Some bytes) held after result c h = λ v. let w = h v in (w.0, outcome_of words order workers bytes result w.0 c w.1, w.2)
+
+pub words_outcome : (words : List (List ℕ)) (left held after : Option (List ℕ)) (ks ks' : ℕ) (status result : Status) (text : List ℕ) → ((order workers : ℕ) → IsComplete words order workers → ⊥)
+    → status ≡ Words → text ≡ words_fault_text → IsGiven held after ks ks' status text result
+    → IfSome left (λ bytes. IsVerdict result → HasWritten held after (IsOutcome words bytes result))
+words_outcome words None held after ks ks' status result text none es et g = tt
+words_outcome words (Some bytes) held after ks ks' status result text none es et (inl g) = λ v.
+    (text, subst (λ (s : Status). IsOutcome words bytes s text) (sym (g.0 ∙ es)) (none, et), g.1)
+words_outcome words (Some bytes) held after ks ks' status result text none es et (inr g) = λ v. absurd (subst IsVerdict g.0 v)

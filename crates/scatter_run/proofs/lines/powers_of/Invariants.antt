@@ -1,6 +1,0 @@
--- The powers below i are those given, and the others 0.
-use Rattle.scatter_run.proofs.Powers.{AreSet}
-use Rattle.scatter_run.proofs.lines.powers_of.Given as goal
-
-abbrev pub invariant-loop-i : goal.invariant-loop-i
-invariant-loop-i l = AreSet l.powers l.given l.i
