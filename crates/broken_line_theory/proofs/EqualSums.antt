@@ -8,6 +8,7 @@ use Rattle.scattering.proofs.Pairing.{pairing, without, pairing-split, coef-with
 use Rattle.scattering.proofs.CrossingChanges.{moved, moved-scale}
 use Rattle.scattering.proofs.ShiftedSums.{moved-pairing, shift}
 use Rattle.scattering.proofs.Keys.{key_eq-refl}
+use Rattle.sum_algebra.proofs.Integers.{plus-same, times-same}
 
 left-out : (φ ψ : Key → ℤ) (f g : Sum) (x : Key) → ((y : Key) → coef f y *ℤ φ y ≡ coef g y *ℤ ψ y) → (y : Key) → coef (without x f) y *ℤ φ y ≡ coef (without x g) y *ℤ ψ y
 left-out φ ψ f g x h y = go (key_eq x y) refl
@@ -18,9 +19,6 @@ left-out φ ψ f g x h y = go (key_eq x y) refl
     go : (b : Bool) → key_eq x y ≡ b → coef (without x f) y *ℤ φ y ≡ coef (without x g) y *ℤ ψ y
     go true e = rw (coef-without x y f, coef-without x y g, e) (none (φ y) (ψ y))
     go false e = rw (coef-without x y f, coef-without x y g, e) (h y)
-
-plus-same : (a b c d : ℤ) → a ≡ c → b ≡ d → a +ℤ b ≡ c +ℤ d
-plus-same a b c d h k = rw (h, k)
 
 without-head : (t : Term) (f : Sum) → without t.0 (t ∷ f) ≡ without t.0 f
 without-head t f = rw key_eq-refl refl
@@ -60,9 +58,6 @@ coef-mul k [] g y = refl
 coef-mul k (t ∷ f) g y =
     coef-append (moved k t.0 t.1 g) (mul k f g) y
     ∙ plus-same (coef (moved k t.0 t.1 g) y) (coef (mul k f g) y) (t.1 *ℤ coef (moved k t.0 (pos 1) g) y) (pairing (λ x. coef (moved k x (pos 1) g) y) f) (moved-scale k t.0 y t.1 g) (coef-mul k f g y)
-
-pub times-same : (a b c d : ℤ) → a ≡ c → b ≡ d → a *ℤ b ≡ c *ℤ d
-times-same a b c d h k = rw (h, k)
 
 pub moved-same : (k : ℕ) (x y : Key) (g h : Sum) → Same g h → coef (moved k x (pos 1) g) y ≡ coef (moved k x (pos 1) h) y
 moved-same k x y g h s =

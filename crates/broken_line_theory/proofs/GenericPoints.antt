@@ -1,5 +1,5 @@
 -- What lies on no live wall isn't special.
-use Rattle.std.proofs.Common.{◌≡◌, refl, subst, inl, inr, arith, Bool, true, false, List, [], ◌∷◌}
+use Rattle.std.proofs.Common.{◌≡◌, refl, subst, arith, Bool, true, false, List, [], ◌∷◌}
 use Rattle.std.specs.Prelude.{ℤ, pos, ◌+ℤ◌, ◌-ℤ◌, ◌*ℤ◌, IsFalse, ◌||◌, ◌&&◌, not}
 use Rattle.std.specs.List.{list_any}
 use Rattle.std.proofs.lemmas.Int.{ints}
@@ -10,13 +10,9 @@ use Rattle.scattering.specs.Wall.{WallKind, Line, Incoming, Outgoing, Wall, allo
 use Rattle.scattering.specs.ActivePoint.{is_special, walls_on}
 use Rattle.scattering.specs.BrokenLine.{live_on}
 use Rattle.scattering.specs.Theta.{is_on_live}
-use Rattle.scattering.proofs.Lists.{filter-keeps, filter-from, and-in, and-left, and-right, not-true}
+use Rattle.scattering.proofs.Lists.{filter-keeps, filter-from, and-in, and-left, and-right, not-true, any-false}
 use Rattle.scattering.proofs.Keys.{point_eq-same}
 use Rattle.plane_theory.proofs.PlacesOnWalls.{zero-in}
-
-any-none : {A : Type 0} (f : A → Bool) (xs : List A) → ((x : A) → In x xs → f x ≡ false) → list_any f xs ≡ false
-any-none f [] h = refl
-any-none f (x ∷ xs) h = rw (h x (inl refl)) (any-none f xs (λ y i. h y (inr i)))
 
 none-in : {A : Type 0} (xs : List A) → list_any (λ x. true) xs ≡ false → (x : A) → In x xs → ⊥
 none-in [] h x i = i
@@ -46,9 +42,9 @@ on-own w = rw (zero-in (det w.dir (difference w.at w.at)) (cross-zero w.dir.a w.
 pub off-plain : (ws : List Wall) (q : Point) → is_on_live ws q ≡ false → IsFalse (is_special ws q)
 off-plain ws q h =
     or-none _ _
-    (any-none (λ u. list_any (λ v. is_live u && is_live v && not (are_parallel u v)) (walls_on ws q)) (walls_on ws q)
-    (λ u i. any-none (λ v. is_live u && is_live v && not (are_parallel u v)) (walls_on ws q) (λ v j. and-none (is_live u && is_live v) (not (are_parallel u v)) (and-none (is_live u) (is_live v) (dead u i)))))
-    (any-none (λ w. starts_at w q && is_live w) ws (λ w i. not-true (starts_at w q && is_live w) (λ e. none-in (live_on ws q) h w (starts w i e))))
+    (any-false (λ u. list_any (λ v. is_live u && is_live v && not (are_parallel u v)) (walls_on ws q)) (walls_on ws q)
+    (λ u i. any-false (λ v. is_live u && is_live v && not (are_parallel u v)) (walls_on ws q) (λ v j. and-none (is_live u && is_live v) (not (are_parallel u v)) (and-none (is_live u) (is_live v) (dead u i)))))
+    (any-false (λ w. starts_at w q && is_live w) ws (λ w i. not-true (starts_at w q && is_live w) (λ e. none-in (live_on ws q) h w (starts w i e))))
   where
     dead : (u : Wall) → In u (walls_on ws q) → is_live u ≡ false
     dead u i = let r = filter-from (λ w. is_on w q) ws u i in not-true (is_live u) (λ e. none-in (live_on ws q) h u (filter-keeps (λ w. is_live w && is_on w q) ws u r.0 (and-in (is_live u) (is_on u q) e r.1)))

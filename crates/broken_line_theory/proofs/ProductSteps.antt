@@ -15,7 +15,8 @@ use Rattle.broken_line_theory.proofs.CompleteTails.{free-of, passes, none-some}
 use Rattle.broken_line_theory.proofs.ThetaOfTails.{forwards, theta-of-tails}
 use Rattle.scattering.specs.Tail.{is_complete}
 use Rattle.scattering.proofs.Lists.{Every-at}
-use Rattle.broken_line_theory.proofs.UniqueFamily.{AgreeBelow, shared-begin, is-zero, excess-same, key-term}
+use Rattle.scattering.proofs.Determined.{coef-find}
+use Rattle.broken_line_theory.proofs.UniqueFamily.{AgreeBelow, shared-begin, excess-same}
 use Rattle.broken_line_theory.proofs.UniqueFamily as U
 use Rattle.broken_line_theory.specs.Laws.{StepsEndWithFamily}
 
@@ -116,7 +117,7 @@ module _ (ws : List Wall) (k j : ℕ) (q : Point) (walls : Every (IsWall j) ws) 
       go (inr h) = (
         [],
         λ d z.
-            let t = key-term a z.found.0 z.found.1 in
+            let t = coef-find a z.found.0 z.found.1 in
             let l = h t.0 t.1 (subst (λ (w : Key). coef a w ≢ pos 0) (sym t.2) z.found.1) (ap (λ (w : Key). w.exp) t.2 ∙ z.found.2) in
             let m = Every-at (λ t. degree t.0 ≤ k) a t.0 series.low t.1 in absurd (omega (arith, l, m)),
       )

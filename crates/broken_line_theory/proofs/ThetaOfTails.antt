@@ -2,14 +2,14 @@
 use Rattle.std.proofs.Common.{◌≡◌, ◌≢◌, ℕ, refl, sym, ap, subst, ◌∙◌, inl, inr, Bool, true, false, List, [], ◌∷◌, ◌++◌, map}
 use Rattle.std.specs.Prelude.{reverse, None, filter}
 use Rattle.std.proofs.lemmas.List.{reverse-reverse}
-use Rattle.scattering.specs.Collections.{In, Every, EveryPair, Distinct, Lists}
+use Rattle.scattering.specs.Collections.{In, Every, Distinct, Lists}
 use Rattle.scattering.specs.Series.{Exp, origin, exp_eq, exp_add, exp_sub}
 use Rattle.scattering.specs.Plane.{Point, IsPoint}
 use Rattle.scattering.specs.Wall.{Wall, IsWall}
 use Rattle.scattering.specs.BrokenLine.{Bend, IsBrokenLine, value}
 use Rattle.scattering.specs.Tail.{Tail, IsTail, last, backwards, end_exp, IsComplete, is_complete}
 use Rattle.scattering.specs.Theta.{IsAskFault, IsTheta}
-use Rattle.scattering.proofs.Lists.{Every-filter, filter-keeps, Every-from_In, Every-at, filter-from}
+use Rattle.scattering.proofs.Lists.{filter-keeps, Every-from_In, Every-at, filter-from, pairs-filter}
 use Rattle.scattering.proofs.Keys.{exp_eq-same, exp_eq-refl}
 use Rattle.broken_line_theory.proofs.TracedBends.{reverse-cons, sub-add, last-end}
 use Rattle.broken_line_theory.proofs.CompleteTails.{lines-are-tails}
@@ -41,19 +41,11 @@ module _ {A B : Type 0} (f : A → B) where
     once = distinct P xs inj l.each l.once;
   }
 
-EveryPair-filter : {A : Type 0} (R : A → A → Type 0) (t : A → Bool) (xs : List A) → EveryPair R xs → EveryPair R (filter t xs)
-EveryPair-filter R t [] h = tt
-EveryPair-filter R t (x ∷ xs) h = go (t x) refl (EveryPair-filter R t xs h.1)
-  where
-    go : (b : Bool) → t x ≡ b → EveryPair R (filter t xs) → EveryPair R (filter t (x ∷ xs))
-    go true e r = rw e (Every-filter (R x) t xs h.0, r)
-    go false e r = rw e r
-
 pub Lists-filter : {A : Type 0} (P : A → Type 0) (t : A → Bool) (xs : List A) → Lists P xs → Lists (λ x. P x × (t x ≡ true)) (filter t xs)
 Lists-filter P t xs l = record {
   each = Every-from_In (λ x. P x × (t x ≡ true)) (filter t xs) (λ x i. let r = filter-from t xs x i in (Every-at P xs x l.each r.0, r.1));
   all = λ x h. filter-keeps t xs x (l.all x h.0) h.1;
-  once = EveryPair-filter (λ x y. x ≢ y) t xs l.once;
+  once = pairs-filter (λ x y. x ≢ y) t xs l.once;
 }
 
 -- ---- tails read forwards

@@ -1,6 +1,6 @@
 -- At most one family fits.
 use Rattle.std.proofs.Common.{◌≡◌, ◌≢◌, ℕ, zero, suc, refl, sym, ap, subst, ◌∙◌, ◌-◌, ◌<◌, ◌≤◌, ◌⊎◌, inl, inr, arith, Bool, true, false, cond, List, [], ◌∷◌, length}
-use Rattle.std.specs.Prelude.{ℤ, pos, ◌+ℤ◌, ◌-ℤ◌, ◌*ℤ◌, neg_ℤ, ◌≤ℤ◌, nat_le}
+use Rattle.std.specs.Prelude.{ℤ, pos, ◌+ℤ◌, ◌-ℤ◌, ◌*ℤ◌, nat_le}
 use Rattle.std.proofs.lemmas.Int.{ints}
 use native.Mathlib.Decide.{dec_le}
 use Rattle.scattering.proofs.Pairing.{pairing, pairing-zero, coef-append}
@@ -13,33 +13,14 @@ use Rattle.scattering.specs.Wall.{Wall, IsWall}
 use Rattle.scattering.specs.ThetaProduct.{BeginsAt, combined, AreThetas, IsFamily}
 use Rattle.scattering.proofs.Lists.{Every-at}
 use Rattle.scattering.proofs.Keys.{key_eq-same, same-or-not, same-powers}
-use Rattle.plane_theory.proofs.WholeNumbers.{sign}
+use Rattle.scattering.proofs.Determined.{coef-find}
 use Rattle.broken_line_theory.proofs.EqualSums.{agree, pairing-minus, at_key, pairing-at, coef-mul, moved-same, mul-same}
 use Rattle.broken_line_theory.proofs.LeadingMonomial.{theta-unique, theta-leading}
 use Rattle.broken_line_theory.specs.Laws.{FamilyIsUnique}
-use Rattle.broken_line_theory.proofs.EqualSums.{times-same}
-
--- ---- terms of a sum
-pub key-term : (f : Sum) (x : Key) → coef f x ≢ pos 0 → (t : Term) × In t f × (t.0 ≡ x)
-key-term [] x n = absurd (n refl)
-key-term (t ∷ f) x n = go (key_eq t.0 x) refl n (λ m. key-term f x m)
-  where
-    skip : (c : ℤ) → c ≡ pos 0 → pos 0 +ℤ c ≡ pos 0
-    skip c e = rw e
-
-    go : (b : Bool) → key_eq t.0 x ≡ b → coef (t ∷ f) x ≢ pos 0 → (coef f x ≢ pos 0 → (u : Term) × In u f × (u.0 ≡ x)) → (u : Term) × In u (t ∷ f) × (u.0 ≡ x)
-    go true e m r = (t, inl refl, key_eq-same t.0 x e)
-    go false e m r = let s = r (λ z. m (rw e (skip (coef f x) z))) in (s.0, inr s.1, s.2)
-
-pub is-zero : (c : ℤ) → (c ≡ pos 0) ⊎ (c ≢ pos 0)
-is-zero c = go (sign c)
-  where
-    go : (c ≡ pos 0) ⊎ ((pos 1 ≤ℤ c) ⊎ (pos 1 ≤ℤ neg_ℤ c)) → (c ≡ pos 0) ⊎ (c ≢ pos 0)
-    go (inl e) = inl e
-    go (inr (inl h)) = inr (λ e. omega (arith, ints, h, e))
-    go (inr (inr h)) = inr (λ e. omega (arith, ints, h, e))
+use Rattle.sum_algebra.proofs.Integers.{minus-same, zero-or-not, times-zero, times-same}
 
 -- ---- the least degree at an exponent
+
 abbrev pub Below : Sum → Exp → ℕ → Sum → Type 0
 Below a r d g = (t : Term) × In t g × (coef a t.0 ≢ pos 0) × (t.0.exp ≡ r) × (degree t.0 < d)
 
@@ -48,7 +29,7 @@ AboveAll a r d g = (t : Term) → In t g → coef a t.0 ≢ pos 0 → t.0.exp �
 
 pub find : (a : Sum) (r : Exp) (d : ℕ) (g : Sum) → Below a r d g ⊎ AboveAll a r d g
 find a r d [] = inr (λ t i. absurd i)
-find a r d (t ∷ g) = go (find a r d g) (is-zero (coef a t.0)) (same-or-not t.0.exp r) (dec_le d (degree t.0))
+find a r d (t ∷ g) = go (find a r d g) (zero-or-not (coef a t.0)) (same-or-not t.0.exp r) (dec_le d (degree t.0))
   where
     head : (coef a t.0 ≢ pos 0 → t.0.exp ≡ r → d ≤ degree t.0) → AboveAll a r d g → AboveAll a r d (t ∷ g)
     head h k u (inl e) n s = subst (λ (w : Term). d ≤ degree w.0) (sym e) (h (subst (λ (w : Term). coef a w.0 ≢ pos 0) e n) (subst (λ (w : Term). w.0.exp ≡ r) e s))
@@ -64,7 +45,7 @@ find a r d (t ∷ g) = go (find a r d g) (is-zero (coef a t.0)) (same-or-not t.0
 least-of : (a : Sum) (x : Key) → coef a x ≢ pos 0 → AboveAll a x.exp (degree x) a → BeginsAt a x.exp (degree x)
 least-of a x n h = record {
   found = (x, n, refl, refl);
-  least = λ y m e. let t = key-term a y m in
+  least = λ y m e. let t = coef-find a y m in
       subst (λ (w : Key). degree x ≤ degree w) t.2 (h t.0 t.1 (subst (λ (w : Key). coef a w ≢ pos 0) (sym t.2) m) (ap (λ (w : Key). w.exp) t.2 ∙ e));
 }
 
@@ -124,9 +105,6 @@ shift-above k x y u lt = go (nat_le (degree (key_mul x u)) k) refl (key_eq (key_
     go true e false q = rw (e, q) refl
     go false e b q = rw e refl
 
-times-zero : (c d : ℤ) → d ≡ pos 0 → c *ℤ d ≡ pos 0
-times-zero c d e = rw e (omega (arith, ints))
-
 zero-times : (c d : ℤ) → c ≡ pos 0 → c *ℤ d ≡ pos 0
 zero-times c d e = rw e (omega (arith, ints))
 
@@ -177,13 +155,10 @@ minus-self a b e = omega (arith, ints, e)
 two-zeros : (a b : ℤ) → a ≡ pos 0 → b ≡ pos 0 → a -ℤ b ≡ pos 0
 two-zeros a b e f = omega (arith, ints, e, f)
 
-minus-same : (a b c d : ℤ) → a ≡ c → b ≡ d → a -ℤ b ≡ c -ℤ d
-minus-same a b c d h k = rw (h, k)
-
 module _ (ws : List Wall) (k j : ℕ) (q : Point) (walls : Every (IsWall j) ws) (point : IsPoint q) where
   -- at its degree and above a family reads as its own coefficient
   level : (a : Sum) (thetas : Exp → Sum) (y x : Key) → AreThetas ws k q a thetas → degree y ≤ k → degree y ≤ degree x → coef a x *ℤ excess k thetas y x ≡ pos 0
-  level a thetas y x are low le = go (is-zero (coef a x)) (dec_le (degree x) (degree y))
+  level a thetas y x are low le = go (zero-or-not (coef a x)) (dec_le (degree x) (degree y))
     where
       go : (coef a x ≡ pos 0) ⊎ (coef a x ≢ pos 0) → Dec (degree x ≤ degree y) → coef a x *ℤ excess k thetas y x ≡ pos 0
       go (inl e) l = zero-times (coef a x) (excess k thetas y x) e
@@ -196,7 +171,7 @@ module _ (ws : List Wall) (k j : ℕ) (q : Point) (walls : Every (IsWall j) ws) 
 
   -- below it both read the same
   under : (a b : Sum) (thetas others : Exp → Sum) (d : ℕ) (y x : Key) → AgreeBelow d a b → AreThetas ws k q a thetas → AreThetas ws k q b others → degree x < d → coef a x *ℤ excess k thetas y x ≡ coef b x *ℤ excess k others y x
-  under a b thetas others d y x same are are' lt = go (is-zero (coef a x))
+  under a b thetas others d y x same are are' lt = go (zero-or-not (coef a x))
     where
       go : (coef a x ≡ pos 0) ⊎ (coef a x ≢ pos 0) → coef a x *ℤ excess k thetas y x ≡ coef b x *ℤ excess k others y x
       go (inl e) = zero-times (coef a x) (excess k thetas y x) e ∙ sym (zero-times (coef b x) (excess k others y x) (sym (same x lt) ∙ e))
@@ -234,11 +209,11 @@ module _ (ws : List Wall) (k j : ℕ) (q : Point) (walls : Every (IsWall j) ws) 
       step a b thetas others y are are' (omega (arith, le, lt)) (λ x l. all-below a b thetas others are are' sums d (omega (arith, le)) x (omega (arith, l, lt))) (sums y (omega (arith, le, lt)))
 
   none-above : (a : Sum) → IsSeries k a → (y : Key) → suc k ≤ degree y → coef a y ≡ pos 0
-  none-above a s y h = go (is-zero (coef a y))
+  none-above a s y h = go (zero-or-not (coef a y))
     where
       go : (coef a y ≡ pos 0) ⊎ (coef a y ≢ pos 0) → coef a y ≡ pos 0
       go (inl e) = e
-      go (inr n) = let t = key-term a y n in let l = Every-at (λ t. degree t.0 ≤ k) a t.0 s.low t.1 in let d = ap degree t.2 in absurd (omega (arith, l, d, h))
+      go (inr n) = let t = coef-find a y n in let l = Every-at (λ t. degree t.0 ≤ k) a t.0 s.low t.1 in let d = ap degree t.2 in absurd (omega (arith, l, d, h))
 
   -- where a family fits it is the only one
   pub family-unique : (l r : Exp) (a b : Sum) → IsFamily ws k l r q a → IsFamily ws k l r q b → Same a b

@@ -10,7 +10,7 @@ use Rattle.scattering.specs.Wall.{Wall, IsWall}
 use Rattle.scattering.specs.Theta.{AskFault, WeightTooLarge, IsAskFault}
 use Rattle.scattering.specs.ThetaProduct.{BeginsAt, combined, IsThetaProduct, IsThetaWeight, of_degree, weight_of, IsNext, AreWeights, BeginWithoutFault, BeginWithFault, IsTooHeavy, Runs, begins, goes, FailsAt, StepsFault, IsProductFault}
 use Rattle.scattering.proofs.Lists.{Every-at, Every-from_In, Every-filter}
-use Rattle.plane_theory.proofs.StrictOrder.{series-unique, coef-own}
+use Rattle.scattering.proofs.Determined.{coef-own, series-unique}
 use Rattle.plane_theory.proofs.TotalOrder.{Compared, exp-total}
 use Rattle.broken_line_theory.proofs.LeadingMonomial.{theta-unique}
 use Rattle.broken_line_theory.proofs.EqualSums.{mul-same}

@@ -18,7 +18,7 @@ use Rattle.scattering.specs.Completion.{lowered}
 use Rattle.scattering.specs.Correction.{raised}
 use Rattle.scattering.proofs.Lists.{any-true, any-some, filter-keeps, filter-from, In-map, In-append, Every-at, or-first, or-second, or-out, and-in, and-left, and-right, bool_iff, not-out, In-mapped, In-left, In-right, Every-implies}
 use Rattle.scattering.proofs.Keys.{point_eq-same}
-use Rattle.completion_theory.proofs.RayStarts.{nat_le-yes}
+use Rattle.scattering.proofs.Tests.{nat_le-yes, nat_le-is}
 
 -- ---- the two ways to be active
 
@@ -46,9 +46,6 @@ pub record EntersAt (k : ℕ) (ws : List Wall) (p : Point) : Type 0 where
   pub t : Term
   pub t_in : In t (rest w.function)
   pub low : degree t.0 ≤ k
-
-nat_le-in : (d k : ℕ) → d ≤ k → nat_le d k ≡ true
-nat_le-in d k e = grind arith
 
 pub active-out : (k : ℕ) (ws : List Wall) (p : Point) → is_active k ws p ≡ true → CrossesAt k ws p ⊎ EntersAt k ws p
 active-out k ws p e = go (or-out (list_any (λ u. list_any (crosses_to k u) (walls_on ws p)) (walls_on ws p)) (list_any (λ w. is_incoming w.kind && point_eq w.at p && has_term_to k w) ws) e)
@@ -96,12 +93,12 @@ active-in k ws p (inl h) =
     (any-true (crosses_to k h.u) (walls_on ws p) h.v (filter-keeps (λ w. is_on w p) ws h.v h.v_in h.v_on)
     (and-in (not (are_parallel h.u h.v)) _ (ap not h.across)
     (any-true (λ (s : Term). list_any (λ (t : Term). nat_le (degree s.0 + degree t.0) k) (rest h.v.function)) (rest h.u.function) h.s h.s_in
-    (any-true (λ (t : Term). nat_le (degree h.s.0 + degree t.0) k) (rest h.v.function) h.t h.t_in (nat_le-in (degree h.s.0 + degree h.t.0) k h.low))))))
+    (any-true (λ (t : Term). nat_le (degree h.s.0 + degree t.0) k) (rest h.v.function) h.t h.t_in (nat_le-is (degree h.s.0 + degree h.t.0) k h.low))))))
 active-in k ws p (inr h) =
     or-second (list_any (λ u. list_any (crosses_to k u) (walls_on ws p)) (walls_on ws p)) _
     (any-true (λ w. is_incoming w.kind && point_eq w.at p && has_term_to k w) ws h.w h.w_in
     (and-in (is_incoming h.w.kind && point_eq h.w.at p) (has_term_to k h.w) (and-in (is_incoming h.w.kind) (point_eq h.w.at p) h.incoming h.at)
-    (any-true (λ (t : Term). nat_le (degree t.0) k) (rest h.w.function) h.t h.t_in (nat_le-in (degree h.t.0) k h.low))))
+    (any-true (λ (t : Term). nat_le (degree t.0) k) (rest h.w.function) h.t h.t_in (nat_le-is (degree h.t.0) k h.low))))
 
 -- ---- walls whose low terms stand in other walls
 
@@ -169,7 +166,7 @@ active-covered n ws us p pr cover e = active-in (suc n) us p (go (active-out (su
 pub cut-keeps : (n : ℕ) (f : Sum) (t : Term) → In t (rest f) → degree t.0 ≤ n → In t (rest (cut n f))
 cut-keeps n f t i le =
     let j = filter-from (λ (t : Term). not (key_eq t.0 unit)) f t i in
-    filter-keeps (λ (t : Term). not (key_eq t.0 unit)) (cut n f) t (filter-keeps (λ (t : Term). nat_le (degree t.0) n) f t j.0 (nat_le-in (degree t.0) n le)) j.1
+    filter-keeps (λ (t : Term). not (key_eq t.0 unit)) (cut n f) t (filter-keeps (λ (t : Term). nat_le (degree t.0) n) f t j.0 (nat_le-is (degree t.0) n le)) j.1
 
 pub cut-from : (n : ℕ) (f : Sum) (t : Term) → In t (rest (cut n f)) → In t (rest f) × (degree t.0 ≤ n)
 cut-from n f t i =

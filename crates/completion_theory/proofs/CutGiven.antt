@@ -1,7 +1,7 @@
 -- Completions and stops of given walls up to order m are those of the walls cut to degree m.
-use Rattle.std.proofs.Common.{◌≡◌, ℕ, zero, suc, refl, sym, ◌∙◌, ap, subst, ◌+◌, ◌≤◌, ◌<◌, Bool, true, false, List, [], ◌∷◌, ◌++◌, map, arith}
+use Rattle.std.proofs.Common.{◌≡◌, ℕ, zero, suc, refl, sym, ◌∙◌, ap, subst, ◌+◌, ◌≤◌, Bool, true, false, List, [], ◌∷◌, map, arith}
 use Rattle.std.specs.Prelude.{Option, Some, None, cond}
-use Rattle.scattering.specs.Series.{Sum, cut}
+use Rattle.scattering.specs.Series.{Sum}
 use Rattle.scattering.specs.Wall.{Wall, Diagram, walls, cut_wall, cut_walls}
 use Rattle.scattering.specs.Completion.{IsCompletion}
 use Rattle.scattering.specs.ActivePoint.{is_incoming}

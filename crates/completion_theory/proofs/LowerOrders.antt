@@ -9,10 +9,12 @@ use Rattle.scattering.specs.Wall.{Outgoing, Wall, IsWall, is_live, cut_wall, cut
 use Rattle.scattering.specs.LocalProduct.{image, axis_x, axis_y}
 use Rattle.scattering.specs.Completion.{ray_before, IsReduced, lowered}
 use Rattle.scattering.proofs.Lists.{Every-append, Every-filter, pairs-filter, map-append, filters-every, Every-implies}
+use Rattle.scattering.proofs.Coefficients.{coef-cut}
+use Rattle.scattering.proofs.Tests.{nat_le-yes}
 use Rattle.crossing_theory.proofs.Translation.{Eq, Eq-trans, Eq-sym, to_Eq, from_Eq, cut-same}
 use Rattle.crossing_theory.proofs.HalfWalls.{Proper, proper}
 use Rattle.crossing_theory.proofs.OtherFunctions.{image-refit, Fits}
-use Rattle.crossing_theory.proofs.CutFunctions.{coef-cut, proper-cut}
+use Rattle.crossing_theory.proofs.CutFunctions.{proper-cut}
 use Rattle.completion_theory.proofs.RaisedDiagram.{cut-cut}
 use Rattle.crossing_theory.proofs.LiveWalls.{image-live, filter-append}
 use Rattle.sum_algebra.proofs.SmallCrossings.{Same-lower}
@@ -31,9 +33,6 @@ every-cut P b (x ∷ xs) i = go (b x) refl (every-cut P b xs i)
     go true e h = rw e (i x e, h)
     go false e h = rw e h
 
-low-of : (d n : ℕ) → nat_le d n ≡ true → d ≤ n
-low-of d n e = grind arith
-
 pub wall-cut : (n m : ℕ) (w : Wall) → IsWall m w → IsWall n (cut_wall n w)
 wall-cut n m w h = record {
   point = h.point;
@@ -42,7 +41,7 @@ wall-cut n m w h = record {
     series = record {
       rises = pairs-filter _ _ w.function h.function.series.rises;
       nonzero = Every-filter _ _ w.function h.function.series.nonzero;
-      low = every-cut (λ (t : Term). degree t.0 ≤ n) (λ (t : Term). nat_le (degree t.0) n) w.function (λ t e. low-of (degree t.0) n e);
+      low = every-cut (λ (t : Term). degree t.0 ≤ n) (λ (t : Term). nat_le (degree t.0) n) w.function (λ t e. nat_le-yes (degree t.0) n e);
     };
     constant = coef-cut n w.function D.unit (omega arith) ∙ h.function.constant;
     others = filters-every _ _ _ w.function h.function.others;

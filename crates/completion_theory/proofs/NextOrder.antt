@@ -21,8 +21,9 @@ use Rattle.scattering.specs.Correction.{IsRatio, Lie, ratio_at, IsCorrection, Co
 use Rattle.scattering.proofs.Pairing.{coef-append}
 use Rattle.scattering.proofs.Lists.{Every-filter, Every-at, Every-implies}
 use Rattle.scattering.proofs.Keys.{key_eq-same, point_eq-refl, origin-case, key_eq-apart, point_eq-same}
+use Rattle.scattering.proofs.Coefficients.{coef-none}
+use Rattle.scattering.proofs.Tests.{bool_cases}
 use Rattle.plane_theory.proofs.Directions.{det-scale, zero-factor, positive-not, Multiple, as_multiple, direction-not_origin, scale-not_origin}
-use Rattle.plane_theory.proofs.StrictOrder.{coef-none}
 use Rattle.crossing_theory.proofs.Translation.{Eq, from_Eq, key_test, coef-is}
 use Rattle.crossing_theory.proofs.Keys.{keys}
 use Rattle.crossing_theory.proofs.HalfWalls.{Proper, proper}
@@ -36,7 +37,6 @@ use Rattle.completion_theory.proofs.RaisedDiagram.{cut-cut, lift_wall, lifted, c
 use Rattle.completion_theory.proofs.LowerOrders.{image-cut, directed-cut, every-wall-cut, every-outgoing, reduced-lower}
 use Rattle.completion_theory.proofs.UniqueCompletion.{image-next, on_axis, ray_coef-live, ray_coef-cut, ray_coef-high}
 use Rattle.completion_theory.specs.Laws.{NextOrderCompletes}
-use Rattle.plane_theory.proofs.StrictOrder.{bool_cases}
 
 -- ---- what is added at low degrees and at exponent (0, 0)
 

@@ -11,6 +11,7 @@ use Rattle.scattering.specs.LocalProduct.{image, axis_x, axis_y, IsConsistentAt}
 use Rattle.scattering.specs.Completion.{IsReduced}
 use Rattle.scattering.specs.ActivePoint.{is_incoming, is_active, walls_on}
 use Rattle.scattering.proofs.Lists.{Every-append, any-weaken, any-none, filter-keeps, Every-from_In, Every-at, any-false, In-map, filter-from, map-append, Every-mapped, and-right, or-left, or-right, Every-implies}
+use Rattle.scattering.proofs.Coefficients.{cut-low}
 use Rattle.crossing_theory.proofs.Translation.{Eq, to_Eq, from_Eq}
 use Rattle.crossing_theory.proofs.HalfWalls.{Proper, proper, small}
 use Rattle.crossing_theory.proofs.Carrying.{Passes}
@@ -34,13 +35,6 @@ cut-cut n k le (t ∷ f) = go (nat_le (degree t.0) k) refl (nat_le (degree t.0) 
     go true p false q h = rw (p, q) h
     go false p true q h = let x = le-trans (degree t.0) n k q le in absurd (cc)
     go false p false q h = rw (p, q) h
-
-nat_le-is : (d n : ℕ) → d ≤ n → nat_le d n ≡ true
-nat_le-is d n le = grind arith
-
-pub cut-low : (n : ℕ) (f : Sum) → Every (λ t. degree t.0 ≤ n) f → cut n f ≡ f
-cut-low n [] h = refl
-cut-low n (t ∷ f) h = rw (nat_le-is (degree t.0) n h.0) (ap (λ r. t ∷ r) (cut-low n f h.1))
 
 pub cut-rays : (n : ℕ) (rays : List Wall) → Every (IsWall n) rays → cut_walls n rays ≡ rays
 cut-rays n [] h = refl

@@ -1,5 +1,5 @@
 -- A live ray starts only at an active point.
-use Rattle.std.proofs.Common.{◌≡◌, ◌≢◌, ℕ, zero, suc, refl, subst, sym, ◌∙◌, ap, List, [], ◌∷◌, ◌++◌, map, Bool, true, false, cond, not, ◌≤◌, ◌<◌, ◌+◌, arith, inl, inr, ◌⊎◌}
+use Rattle.std.proofs.Common.{◌≡◌, ◌≢◌, ℕ, zero, suc, refl, subst, sym, ◌∙◌, ap, List, [], ◌∷◌, ◌++◌, map, Bool, true, false, cond, not, ◌≤◌, ◌+◌, arith, inl, inr, ◌⊎◌}
 use Rattle.std.specs.Prelude.{ℤ, pos, ◌&&◌, IsTrue, nat_le, ◌*ℤ◌, ◌+ℤ◌, neg_ℤ}
 use Rattle.std.specs.List.{list_any}
 use native.Mathlib.Decide.{dec_le}
@@ -22,6 +22,7 @@ use Rattle.scattering.specs.Correction.{ray_coef}
 use Rattle.scattering.proofs.Pairing.{coef-append}
 use Rattle.scattering.proofs.Lists.{Every-append, Every-filter, any-none, filter-keeps, Every-from_In, Every-at, any-false, In-map, In-append, filter-from, and-right, Every-implies}
 use Rattle.scattering.proofs.Keys.{point_eq-same}
+use Rattle.scattering.proofs.Tests.{nat_le-yes, nat_le-not, nat_le-no}
 use Rattle.plane_theory.proofs.Directions.{direction-zero}
 use Rattle.correction_theory.proofs.RayCoefficients.{ray_coef-own}
 use Rattle.crossing_theory.proofs.Keys.{keys, turn}
@@ -39,15 +40,6 @@ use Rattle.correction_theory.proofs.ReducedRays.{live-term, rest-own, rest-nonze
 
 nat_le-weaken : (d e n k : ℕ) → nat_le d n ≡ false → d ≤ e → k ≤ n → nat_le e k ≡ false
 nat_le-weaken d e n k h p q = grind arith
-
-nat_le-of : (d k : ℕ) → k < d → nat_le d k ≡ false
-nat_le-of d k h = grind arith
-
-pub nat_le-yes : (d k : ℕ) → nat_le d k ≡ true → d ≤ k
-nat_le-yes d k h = grind arith
-
-nat_le-no : (d k : ℕ) → nat_le d k ≡ false → k < d
-nat_le-no d k h = grind arith
 
 -- a function cut has fewer terms
 pub base-term : (d : ℕ) (w : Wall) (t : Term) → In t (rest (base d w)) → In t (rest w.function) × ((is_incoming w.kind ≡ false) → degree t.0 ≤ d)
@@ -207,7 +199,7 @@ module _ (n : ℕ) (initial rays : List Wall) (p : Point)
     later = Every-from_In _ rays (λ r i s. any-false _ (rest r.function) (λ t j. go r i s t j (dec_le (degree t.0) (suc d))))
       where
         go : (r : Wall) → In r rays → starts_at r p ≡ true → (t : Term) → In t (rest r.function) → Dec (degree t.0 ≤ suc d) → nat_le (degree t.0) (suc d) ≡ false
-        go r i s t j (no high) = nat_le-of (degree t.0) (suc d) (omega (arith, high))
+        go r i s t j (no high) = nat_le-not (degree t.0) (suc d) (omega (arith, high))
         go r i s t j (yes low) =
             let wr = (Every-at (λ r. (r.kind ≡ Outgoing) × IsWall n r) rays r hr i).1 in
             let h : nat_le (degree t.0) d ≡ false = any-none _ (rest r.function) (Every-at (λ r. starts_at r p ≡ true → has_term_to d r ≡ false) rays r late i s) t j in

@@ -18,8 +18,8 @@ use Rattle.scattering.specs.Correction.{ray_coef}
 use Rattle.scattering.proofs.Pairing.{coef-append}
 use Rattle.scattering.proofs.Lists.{Every-append, Every-filter, map-append, Every-implies}
 use Rattle.scattering.proofs.Keys.{key_eq-same, key_eq-apart}
-use Rattle.plane_theory.proofs.Directions.{direction-zero}
-use Rattle.plane_theory.proofs.StrictOrder.{coef-none, dead-coef}
+use Rattle.scattering.proofs.Coefficients.{coef-none, dead-coef}
+use Rattle.plane_theory.proofs.Directions.{direction-zero, from-difference}
 use Rattle.crossing_theory.proofs.Translation.{from_Eq}
 use Rattle.crossing_theory.proofs.HalfWalls.{Proper, proper}
 use Rattle.crossing_theory.proofs.OtherFunctions.{refit}
@@ -124,13 +124,10 @@ cancel-sums a b c d p q = omega (arith, ints, p, q)
 difference-zero : (t a b : ℤ) → t *ℤ a ≡ t *ℤ b → t *ℤ (a -ℤ b) ≡ pos 0
 difference-zero t a b e = ring ints_ring (t ∷ a ∷ b ∷ []) (X :* (Y :- Z)) (X :* Y :- X :* Z) refl ∙ rw e (ring ints_ring ((t *ℤ b) ∷ []) (X :- X) nought refl)
 
-from-zero : (a b : ℤ) → a -ℤ b ≡ pos 0 → a ≡ b
-from-zero a b e = omega (arith, ints, e)
-
 -- a number that the determinants with both axes take to equal products
 pub by_axes : (d : Exp) → IsDirection d → (a b : ℤ) → ((m : Exp) → In m (axis_x ∷ axis_y ∷ []) → det d m *ℤ a ≡ det d m *ℤ b) → a ≡ b
 by_axes d h a b f =
-    from-zero a b (direction-zero d h (a -ℤ b)
+    from-difference a b (direction-zero d h (a -ℤ b)
     (ring ints_ring (d.a ∷ d.b ∷ (a -ℤ b) ∷ []) (X :* Z) ((X :* E.unit :- Y :* nought) :* Z) refl ∙ difference-zero (det d axis_y) a b (f axis_y (inr (inl refl))))
     (ring ints_ring (d.a ∷ d.b ∷ (a -ℤ b) ∷ []) (Y :* Z) (minus ((X :* nought :- Y :* E.unit) :* Z)) refl ∙ ap neg_ℤ (difference-zero (det d axis_x) a b (f axis_x (inl refl)))))
 

@@ -23,8 +23,8 @@ use Rattle.scattering.specs.LocalProduct.{axis_x, axis_y}
 use Rattle.scattering.specs.Correction.{Ratio, IsRatio, Lie, ratio_at}
 use Rattle.scattering.proofs.Lists.{any-none, Every-from_In, or-left, or-right, In-mapped, In-left, In-right}
 use Rattle.scattering.proofs.Keys.{key_eq-same, key_eq-refl, origin-case, int_eq-same}
+use Rattle.scattering.proofs.Determined.{coef-find}
 use Rattle.plane_theory.proofs.Directions.{det-scale, zero-factor, positive-not, as_multiple}
-use Rattle.plane_theory.proofs.StrictOrder.{coef-find}
 use Rattle.crossing_theory.proofs.Keys.{keys}
 use Rattle.crossing_theory.proofs.Translation.{Eq, Eq-refl, Eq-trans, Eq-sym, key_test}
 use Rattle.crossing_theory.proofs.CutFunctions.{above}

@@ -14,7 +14,7 @@ use Rattle.scattering.specs.Series.{Key, Sum, Exp, degree, det, z, key_mul, key_
 use Rattle.scattering.specs.Series as D
 use Rattle.scattering.specs.LocalProduct.{axis_x, axis_y}
 use Rattle.scattering.proofs.Keys.{key_eq-same, key_eq-apart}
-use Rattle.plane_theory.proofs.StrictOrder.{coef-rest}
+use Rattle.scattering.proofs.Coefficients.{coef-rest}
 use Rattle.crossing_theory.proofs.Keys.{keys, key_det}
 use Rattle.crossing_theory.proofs.Translation.{Eq, Eq-trans, Eq-sym, cut-same, key_test, coef-is}
 use Rattle.crossing_theory.proofs.HalfWalls.{every-keys}

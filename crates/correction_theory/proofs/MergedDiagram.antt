@@ -5,6 +5,7 @@ use Rattle.std.specs.Int.{IsGcd}
 use Rattle.sum_algebra.proofs.Ring.{minus, nought, ring}
 use Rattle.sum_algebra.proofs.Ring as E
 use Rattle.sum_algebra.proofs.IntegerRing.{ints_ring, ◌:+◌, ◌:*◌, X, Y, Z}
+use Rattle.sum_algebra.proofs.Integers.{zero-or-not}
 use Rattle.scattering.specs.Collections.{Every, EveryPair}
 use Rattle.scattering.specs.Series.{Key, Sum, Exp, Term, degree, rest, one, coef, coef_at, key_eq, exp_eq, origin, IsMultiple}
 use Rattle.scattering.specs.Plane.{Point, IsPoint, IsDirection, point_eq, point_before}
@@ -12,12 +13,13 @@ use Rattle.scattering.specs.Wall.{Outgoing, Wall, IsWall, is_live, cut_walls}
 use Rattle.scattering.specs.Correction.{Ratio, Lie, ratio_at, ray_coef, Corrections, IsWhole, IsAdded, AreMergeable}
 use Rattle.scattering.proofs.Lists.{Every-from_In, Every-at, any-true, Every-implies}
 use Rattle.scattering.proofs.Keys.{key_eq-same, key_eq-refl, exp_eq-refl, point_eq-same}
+use Rattle.scattering.proofs.Coefficients.{coef-none, dead-coef}
+use Rattle.scattering.proofs.Determined.{coef-find}
 use Rattle.plane_theory.proofs.Directions.{Multiple, as_multiple, same-direction, positive-not, direction-not_origin, scale-not_origin}
 use Rattle.plane_theory.proofs.PointOrder.{before-irrefl}
-use Rattle.plane_theory.proofs.StrictOrder.{coef-none, coef-find, dead-coef}
 use Rattle.plane_theory.proofs.TotalOrder.{Place, place_before, place-total, place-trans}
 use Rattle.correction_theory.proofs.Insertion.{total, Joined, Inserted, insert}
-use Rattle.correction_theory.proofs.MergedTerms.{zero-or-not, Added, add-term, one-is}
+use Rattle.correction_theory.proofs.MergedTerms.{Added, add-term, one-is}
 use Rattle.correction_theory.specs.Laws.{MergedDiagramExists}
 
 -- ---- rays in their order

@@ -4,21 +4,15 @@ use Rattle.std.specs.Prelude.{ℤ, pos, ◌+ℤ◌}
 use Rattle.std.proofs.lemmas.Int.{ints}
 use Rattle.sum_algebra.proofs.Ring.{nought, ring}
 use Rattle.sum_algebra.proofs.IntegerRing.{ints_ring, ◌:+◌, X}
+use Rattle.sum_algebra.proofs.Integers.{zero-or-not}
 use Rattle.scattering.specs.Collections.{In}
-use Rattle.scattering.specs.Series.{Key, Sum, Exp, Term, degree, rest, one, unit, coef, coef_at, key_eq, key_before, int_eq, IsMultiple, IsWallFunction}
+use Rattle.scattering.specs.Series.{Key, Sum, Exp, Term, degree, rest, one, unit, coef, coef_at, key_eq, key_before, IsMultiple, IsWallFunction}
 use Rattle.scattering.proofs.Lists.{Every-from_In, Every-at, filter-from, filter-keeps, not-out, Every-implies}
-use Rattle.scattering.proofs.Keys.{key_eq-same, key_eq-refl, key_eq-apart, int_eq-same}
-use Rattle.plane_theory.proofs.StrictOrder.{coef-none, coef-rest}
-use Rattle.plane_theory.proofs.TotalOrder.{key-total, key-trans}
+use Rattle.scattering.proofs.Keys.{key_eq-same, key_eq-refl, key_eq-apart}
+use Rattle.scattering.proofs.Coefficients.{coef-none, coef-rest}
+use Rattle.scattering.proofs.KeyOrder.{key_before-trans}
+use Rattle.plane_theory.proofs.TotalOrder.{key-total}
 use Rattle.correction_theory.proofs.Insertion.{total, Joined, Inserted, insert}
-
--- a number is 0 or not
-pub zero-or-not : (v : ℤ) → (v ≡ pos 0) ⊎ (v ≢ pos 0)
-zero-or-not v = go (int_eq v (pos 0)) refl
-  where
-    go : (b : Bool) → int_eq v (pos 0) ≡ b → (v ≡ pos 0) ⊎ (v ≢ pos 0)
-    go true e = inl (int_eq-same v (pos 0) e)
-    go false e = inr (λ s. let f : int_eq (pos 0) (pos 0) ≡ false = subst (λ (w : ℤ). int_eq w (pos 0) ≡ false) s e in absurd (cc))
 
 pub rest-at-unit : (f : Sum) → coef (rest f) unit ≡ pos 0
 rest-at-unit f = coef-none (rest f) unit (Every-from_In _ (rest f) (λ t i. not-out (key_eq t.0 unit) (filter-from (λ (t : Term). not (key_eq t.0 unit)) f t i).1))
@@ -94,7 +88,7 @@ add-term n d f t w nonzero high low multiple = record {
     r : Inserted key_of key_before (GoodTerm n d) coef_at t f
     r =
         insert key_of key_before (GoodTerm n d) coef_at
-        (λ a b c _ _ _ p q. key-trans a.0 b.0 c.0 p q) t (nonzero, low, inr (high, multiple)) (λ u _. key-total t.0 u.0) (join-terms n d t (nonzero, low, inr (high, multiple)))
+        (λ a b c _ _ _ p q. key_before-trans a.0 b.0 c.0 p q) t (nonzero, low, inr (high, multiple)) (λ u _. key-total t.0 u.0) (join-terms n d t (nonzero, low, inr (high, multiple)))
         f (Every-from_In (GoodTerm n d) f good) w.series.rises
 
     whole : (x : Key) → coef r.items x ≡ coef_at x t +ℤ coef f x

@@ -9,9 +9,10 @@ use Rattle.scattering.specs.Plane.{Point, point_eq, point_before}
 use Rattle.scattering.specs.Wall.{Wall}
 use Rattle.scattering.specs.Completion.{ray_before}
 use Rattle.scattering.specs.Correction.{ray_coef}
-use Rattle.scattering.proofs.Lists.{Every-implies, Every-at}
+use Rattle.scattering.proofs.Lists.{Every-implies, Every-at, and-both}
 use Rattle.scattering.proofs.Keys.{point_eq-refl, exp_eq-refl, point_eq-same, exp_eq-same}
-use Rattle.plane_theory.proofs.StrictOrder.{ray_before-asym, bool_cases, and-both}
+use Rattle.scattering.proofs.Tests.{bool_cases}
+use Rattle.plane_theory.proofs.StrictOrder.{ray_before-asym}
 
 abbrev pub RaysRise : List Wall → Type 0
 RaysRise rays = EveryPair (λ (r s : Wall). IsTrue (ray_before r s)) rays

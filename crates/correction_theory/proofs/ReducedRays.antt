@@ -11,7 +11,10 @@ use Rattle.scattering.specs.Completion.{ray_before, IsReduced}
 use Rattle.scattering.specs.Correction.{ray_coef}
 use Rattle.scattering.proofs.Lists.{Every-filter, filter-keeps, Every-at, pairs-filter}
 use Rattle.scattering.proofs.Keys.{key_eq-same}
-use Rattle.plane_theory.proofs.StrictOrder.{sorted-unique, ray_before-asym, coef-own, coef-rest, series-unique}
+use Rattle.scattering.proofs.StrictOrders.{sorted-unique}
+use Rattle.scattering.proofs.Determined.{coef-own, series-unique}
+use Rattle.scattering.proofs.Coefficients.{coef-rest}
+use Rattle.plane_theory.proofs.StrictOrder.{ray_before-asym}
 use Rattle.correction_theory.proofs.RayCoefficients.{RaysRise, ray_coef-own, ray_coef-find}
 
 first-term : (f : Sum) → IsTrue (list_any (λ (t : Term). true) f) → (t : Term) × In t f

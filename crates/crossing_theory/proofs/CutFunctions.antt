@@ -12,7 +12,7 @@ use Rattle.scattering.specs.Plane.{Point}
 use Rattle.scattering.specs.Wall.{Wall, cut_wall}
 use Rattle.scattering.specs.ActivePoint.{is_incoming}
 use Rattle.scattering.proofs.Lists.{filters-every}
-use Rattle.crossing_theory.proofs.Translation.{cut-same, from_Eq}
+use Rattle.scattering.proofs.Coefficients.{coef-cut}
 use Rattle.crossing_theory.proofs.HalfWalls.{Proper, proper-by, every-keys}
 use Rattle.crossing_theory.proofs.OtherFunctions.{refit}
 use Rattle.crossing_theory.proofs.AddedTerms.{Grows, gains}
@@ -38,9 +38,6 @@ above-high n (t ∷ f) = go (nat_le (degree t.0) n) refl (above-high n f)
     go : (b : Bool) → nat_le (degree t.0) n ≡ b → Every (λ t. suc n ≤ degree t.0) (above n f) → Every (λ t. suc n ≤ degree t.0) (above n (t ∷ f))
     go true e h = rw e h
     go false e h = rw e (not_le (degree t.0) n e, h)
-
-pub coef-cut : (n : ℕ) (f : Sum) (k : Key) → degree k ≤ n → coef (cut n f) k ≡ coef f k
-coef-cut n f k le = from_Eq n (cut n f) f (cut-same n f) k le
 
 pub proper-cut : (n : ℕ) (w : Wall) → Proper w → Proper (cut_wall n w)
 proper-cut n w p = proper-by (cut_wall n w) (coef-cut n w.function D.unit (omega arith) ∙ p.constant) (filters-every _ _ _ w.function p.others)

@@ -63,7 +63,7 @@ module _ (b : Wall → Bool) where
       go true h = ap (λ r. halves p w ++ r) h
       go false h = h
 
-  half_walls-filter : (p : Point) (ws : List Wall) → Every (λ w. IsDirection w.dir) ws → half_walls (filter b ws) p ≡ filter (λ (h : Half). b h.wall) (half_walls ws p)
+  pub half_walls-filter : (p : Point) (ws : List Wall) → Every (λ w. IsDirection w.dir) ws → half_walls (filter b ws) p ≡ filter (λ (h : Half). b h.wall) (half_walls ws p)
   half_walls-filter p ws h =
       ap (in_order before) (sym (filter-halves p ws))
       ∙ sym (in_order-filter before Directed (λ x y z qx qy qz e f. turns-trans (along x) (along y) (along z) qx qy qz e f) (λ y x e. turns-asym (along y) (along x) e) (λ (h : Half). b h.wall) (flat_map (halves p) ws)

@@ -1,5 +1,5 @@
 -- At a passive point all crossings commute, so a diagram without live starts there is consistent there.
-use Rattle.std.proofs.Common.{◌≡◌, ℕ, refl, List, [], ◌∷◌, Bool, true, false, ◌≤◌, ◌<◌, ◌+◌, ◌-◌, arith}
+use Rattle.std.proofs.Common.{◌≡◌, ℕ, refl, List, [], ◌∷◌, Bool, true, false, ◌≤◌, ◌+◌, ◌-◌, arith}
 use Rattle.std.specs.Prelude.{ℤ, pos, flat_map, nat_le}
 use Rattle.std.specs.List.{list_any}
 use native.Mathlib.Decide.{dec_le}
@@ -10,6 +10,7 @@ use Rattle.scattering.specs.Wall.{Wall, is_on, crosses_to, are_parallel}
 use Rattle.scattering.specs.LocalProduct.{Half, along, carry, halves, image}
 use Rattle.scattering.proofs.Lists.{Every-flat_map, pairs-all, any-weaken, Every-from_In, Every-at, or-left, or-right, Every-implies}
 use Rattle.scattering.proofs.Keys.{int_eq-same}
+use Rattle.scattering.proofs.Tests.{nat_le-not, nat_le-no}
 use Rattle.crossing_theory.proofs.Translation.{Eq, Eq-trans}
 use Rattle.crossing_theory.proofs.HalfWalls.{Proper, Commutes, half, half-parallel, half-high, small}
 use Rattle.crossing_theory.proofs.Carrying.{halves-of, proper-halves, carry-in_order, carry-passes, Passes}
@@ -26,12 +27,6 @@ pub record Degrees (k : ℕ) (f g : Sum) : Type 0 where
   pub enough : k ≤ c + d + 1
   pub f_high : list_any (λ (t : Term). nat_le (degree t.0) c) f ≡ false
   pub g_high : list_any (λ (t : Term). nat_le (degree t.0) d) g ≡ false
-
-nat_le-no : (a b : ℕ) → nat_le a b ≡ false → b < a
-nat_le-no a b e = grind arith
-
-nat_le-not : (a b : ℕ) → b < a → nat_le a b ≡ false
-nat_le-not a b e = grind arith
 
 pub positive : (g : Sum) → Every (λ t. 1 ≤ degree t.0) g → list_any (λ (t : Term). nat_le (degree t.0) 0) g ≡ false
 positive [] h = refl

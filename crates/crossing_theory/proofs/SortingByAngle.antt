@@ -4,11 +4,12 @@ use Rattle.std.specs.Prelude.{ℤ, pos, filter, ◌&&◌, ◌||◌, ◌*ℤ◌, 
 use Rattle.std.proofs.lemmas.Int.{ints}
 use Rattle.sum_algebra.proofs.Ring.{var, minus, nought, ring}
 use Rattle.sum_algebra.proofs.IntegerRing.{ints_ring, ◌:+◌, ◌:*◌, ◌:-◌, X, Y, Z}
+use Rattle.sum_algebra.proofs.Integers.{positive-mul}
 use Rattle.scattering.specs.Collections.{Every, EveryPair, put, in_order}
 use Rattle.scattering.specs.Series.{Exp, det, origin, int_eq}
 use Rattle.scattering.specs.Plane.{is_upper, turns_before}
 use Rattle.scattering.proofs.Lists.{Every-put, Every-in_order, Every-filter}
-use Rattle.plane_theory.proofs.WholeNumbers.{positive, not_negative}
+use Rattle.plane_theory.proofs.WholeNumbers.{not_negative}
 
 -- ---- signs
 
@@ -29,12 +30,12 @@ opposite-sums l r s p e q t = omega (arith, ints, p, e, q, t)
 
 between : (a b c : Exp) → Up a → Up b → Up c → pos 1 ≤ℤ det a c → det a b ≤ℤ pos 0 → det b c ≤ℤ pos 0 → ⊥
 between a b c ua (inl b_up) uc ac ab bc =
-    opposite-sums (det a c *ℤ b.b) (neg_ℤ (det a b) *ℤ c.b) (neg_ℤ (det b c) *ℤ a.b) (positive (det a c) b.b ac b_up)
+    opposite-sums (det a c *ℤ b.b) (neg_ℤ (det a b) *ℤ c.b) (neg_ℤ (det b c) *ℤ a.b) (positive-mul (det a c) b.b ac b_up)
     (ring ints_ring (a.a ∷ a.b ∷ b.a ∷ b.b ∷ c.a ∷ c.b ∷ []) ((X :* var 5 :- Y :* var 4) :* var 3) (minus (minus (X :* var 3 :- Y :* Z) :* var 5 :+ minus (Z :* var 5 :- var 3 :* var 4) :* Y)) refl)
     (not_negative _ _ (flip-sign (det a b) ab) (up-low c uc)) (not_negative _ _ (flip-sign (det b c) bc) (up-low a ua))
 between a b c ua (inr flat) (inl c_up) ac ab bc =
     let e : det b c ≡ b.a *ℤ c.b = ap (λ y. b.a *ℤ c.b -ℤ y *ℤ c.a) flat.0 ∙ ring ints_ring (b.a ∷ c.b ∷ c.a ∷ []) (X :* Y :- nought :* Z) (X :* Y) refl in
-    let p = positive b.a c.b flat.1 c_up in
+    let p = positive-mul b.a c.b flat.1 c_up in
     omega (arith, ints, e, p, bc)
 between a b c ua (inr flat) (inr c_flat) ac ab bc =
     let e : det a c ≡ neg_ℤ (a.b *ℤ c.a) = ap (λ y. a.a *ℤ y -ℤ a.b *ℤ c.a) c_flat.0 ∙ ring ints_ring (a.a ∷ a.b ∷ c.a ∷ []) (X :* nought :- Y :* Z) (minus (Y :* Z)) refl in

@@ -5,7 +5,7 @@ use Rattle.std.specs.Int.{w128, ◌∣◌, IsGcd}
 use Rattle.std.proofs.Math.Nat.{eq-zero_of_zero-dvd}
 use Rattle.std.proofs.lemmas.Int.{ints, to_z-of_z, to_z_pos, quot-rem, quot_fits}
 use Rattle.std.proofs.lemmas.Nat.Gcd.{le_of_dvd, mod-eq-zero_of_dvd}
-use Rattle.frac_128.specs.Quotient.{IsReduced}
+use Rattle.frac_128.specs.Quotient.{AreReduced}
 
 -- the least number above 0 that is divided has its divisors below it
 pub divisor-range : (b : ℤ) (g : ℕ) → pos 1 ≤ℤ b → FitsSigned w128 b → g ∣ nat_abs b → (1 ≤ g) × (g < 2 ^ 127)
@@ -50,5 +50,5 @@ module _ (a b : ℤ) (u v g : ℕ) (fa : FitsSigned w128 a) (fb : FitsSigned w12
       divided x g d ∙ ap (λ z. int_div z (pos g) *ℤ pos g) (sym (to_z-of_z w128 x f)) ∙ ap (λ z. int_div (to_z w128 (of_z w128 x)) z *ℤ pos g) (sym same)
       ∙ ap (λ z. z *ℤ pos g) (sym (to_z-of_z w128 _ (quotient-fits x f)))
 
-  pub reduced : IsReduced a b (to_z w128 (of_z w128 (int_div (to_z w128 (of_z w128 a)) (to_z w128 g)))) (to_z w128 (of_z w128 (int_div (to_z w128 (of_z w128 b)) (to_z w128 g))))
+  pub reduced : AreReduced a b (to_z w128 (of_z w128 (int_div (to_z w128 (of_z w128 a)) (to_z w128 g)))) (to_z w128 (of_z w128 (int_div (to_z w128 (of_z w128 b)) (to_z w128 g))))
   reduced = record { g = g; gcd = gcd; first = quotient a fa gcd.0; second = quotient b fb gcd.1 }

@@ -6,3 +6,4 @@ pub mod Rests
 pub mod Sum
 pub mod Decimal
 pub mod Reading
+pub mod SignedProducts

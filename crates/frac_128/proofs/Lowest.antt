@@ -7,7 +7,8 @@ use Rattle.std.proofs.lemmas.Int.{ints, unsigned_abs-mul}
 use Rattle.std.proofs.lemmas.Nat.Gcd.{dvd_antisymm}
 use Rattle.sum_algebra.proofs.Ring.{var, ring}
 use Rattle.sum_algebra.proofs.IntegerRing.{ints_ring, ◌:*◌}
-use Rattle.frac_128.specs.Quotient.{IsLowest, AreEqual, IsReduced, LowestFits}
+use Rattle.sum_algebra.proofs.Integers.{positive-mul}
+use Rattle.frac_128.specs.Quotient.{IsLowest, AreEqual, AreReduced, LowestFits}
 use Rattle.frac_128.proofs.Coprime.{dvd_other_factor, coprime-swap, coprime-divisors, coprime-mul, coprime-quotients}
 
 size-times : (a p : ℤ) (g : ℕ) → a ≡ p *ℤ pos g → nat_abs a ≡ g * nat_abs p
@@ -23,7 +24,7 @@ above b (pos (suc q)) g h e = omega (arith, ints)
 above b (negsuc q) zero h e = absurd (omega (arith, ints, h, e))
 above b (negsuc q) (suc g) h e = absurd (omega (arith, ints, h, e))
 
-pub reduced-lowest : (a b p q : ℤ) → pos 1 ≤ℤ b → IsReduced a b p q → IsLowest p q
+pub reduced-lowest : (a b p q : ℤ) → pos 1 ≤ℤ b → AreReduced a b p q → IsLowest p q
 reduced-lowest a b p q h r = record {
   positive = above b q r.g h r.second;
   coprime = coprime-quotients (nat_abs a) (nat_abs b) r.g (nat_abs p) (nat_abs q) (nonzero b q r.g h r.second) r.gcd (size-times a p r.g r.first) (size-times b q r.g r.second);
@@ -32,7 +33,7 @@ reduced-lowest a b p q h r = record {
 spread : (p q g : ℤ) → p *ℤ (q *ℤ g) ≡ (p *ℤ g) *ℤ q
 spread p q g = ring ints_ring (p ∷ q ∷ g ∷ []) (var 0 :* (var 1 :* var 2)) ((var 0 :* var 2) :* var 1) refl
 
-pub reduced-equal : (a b p q : ℤ) → IsReduced a b p q → AreEqual p q a b
+pub reduced-equal : (a b p q : ℤ) → AreReduced a b p q → AreEqual p q a b
 reduced-equal a b p q r = ap (λ z. p *ℤ z) r.second ∙ spread p q (pos r.g) ∙ ap (λ z. z *ℤ q) (sym r.first)
 
 -- ---- a number has one quotient in lowest terms
@@ -75,14 +76,7 @@ across p q p' q' a b l h k = cancel (p *ℤ q') (p' *ℤ q) b l (turn p q' b ∙
 divides : (a p : ℤ) (g : ℕ) → a ≡ p *ℤ pos g → nat_abs p ∣ nat_abs a
 divides a p g e = subst (λ (n : ℕ). nat_abs p ∣ n) (sym (size-times a p g e)) (dvd-mul_left (nat_abs p) g)
 
-pub positive-mul : (x y : ℤ) → pos 1 ≤ℤ x → pos 1 ≤ℤ y → pos 1 ≤ℤ (x *ℤ y)
-positive-mul (pos (suc x)) (pos (suc y)) h k = omega (arith, ints)
-positive-mul (pos zero) y h k = absurd (omega (arith, ints, h))
-positive-mul (negsuc x) y h k = absurd (omega (arith, ints, h))
-positive-mul (pos (suc x)) (pos zero) h k = absurd (omega (arith, ints, k))
-positive-mul (pos (suc x)) (negsuc y) h k = absurd (omega (arith, ints, k))
-
-module _ (a b c d a' b' c' d' : ℤ) (h : IsLowest a b) (k : IsLowest c d) (r : IsReduced a d a' d') (s : IsReduced c b c' b') where
+module _ (a b c d a' b' c' d' : ℤ) (h : IsLowest a b) (k : IsLowest c d) (r : AreReduced a d a' d') (s : AreReduced c b c' b') where
   low : IsLowest a' d'
   low = reduced-lowest a d a' d' k.positive r
 

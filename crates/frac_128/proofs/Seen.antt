@@ -3,10 +3,10 @@ use Rattle.std.proofs.Common.{◌≡◌, sym, ap, subst, ◌∙◌, to_z, of_z, 
 use Rattle.std.specs.Prelude.{ℤ, pos, ◌+ℤ◌, ◌*ℤ◌, ◌≤ℤ◌, IsSome, ◌↔◌}
 use Rattle.std.specs.Int.{w128}
 use Rattle.std.proofs.lemmas.Int.{to_z-of_z}
-use Rattle.frac_128.specs.Quotient.{IsLowest, AreEqual, IsReduced}
+use Rattle.frac_128.specs.Quotient.{IsLowest, AreEqual, AreReduced}
 
-pub reduced-seen : (a b p q : ℤ) → FitsSigned w128 a → FitsSigned w128 b → IsReduced (to_z w128 (of_z w128 a)) (to_z w128 (of_z w128 b)) p q → IsReduced a b p q
-reduced-seen a b p q f g r = subst (λ (x : ℤ). IsReduced x b p q) (to_z-of_z w128 a f) (subst (λ (y : ℤ). IsReduced (to_z w128 (of_z w128 a)) y p q) (to_z-of_z w128 b g) r)
+pub reduced-seen : (a b p q : ℤ) → FitsSigned w128 a → FitsSigned w128 b → AreReduced (to_z w128 (of_z w128 a)) (to_z w128 (of_z w128 b)) p q → AreReduced a b p q
+reduced-seen a b p q f g r = subst (λ (x : ℤ). AreReduced x b p q) (to_z-of_z w128 a f) (subst (λ (y : ℤ). AreReduced (to_z w128 (of_z w128 a)) y p q) (to_z-of_z w128 b g) r)
 
 pub times-seen : (a b : ℤ) → FitsSigned w128 a → FitsSigned w128 b → to_z w128 (of_z w128 a) *ℤ to_z w128 (of_z w128 b) ≡ a *ℤ b
 times-seen a b f g = ap (λ x. x *ℤ to_z w128 (of_z w128 b)) (to_z-of_z w128 a f) ∙ ap (λ y. a *ℤ y) (to_z-of_z w128 b g)

@@ -6,8 +6,9 @@ use Rattle.std.proofs.lemmas.Int.{ints}
 use Rattle.std.proofs.lemmas.Nat.Gcd.{same_from_IsGcd}
 use Rattle.sum_algebra.proofs.Ring.{var, ring}
 use Rattle.sum_algebra.proofs.IntegerRing.{ints_ring, ◌:*◌, ◌:+◌}
-use Rattle.frac_128.specs.Quotient.{IsLowest, AreEqual, IsReduced, SumFitsOver}
-use Rattle.frac_128.proofs.Lowest.{nonzero, above, cancel, across, positive-mul}
+use Rattle.sum_algebra.proofs.Integers.{positive-mul}
+use Rattle.frac_128.specs.Quotient.{IsLowest, AreEqual, AreReduced, SumFitsOver}
+use Rattle.frac_128.proofs.Lowest.{nonzero, above, cancel, across}
 use Rattle.frac_128.proofs.Divided.{divided}
 
 common-factor : (a b c d g : ℤ) → (a *ℤ d +ℤ c *ℤ b) *ℤ ((b *ℤ g) *ℤ (d *ℤ g)) ≡ (a *ℤ (d *ℤ g) +ℤ c *ℤ (b *ℤ g)) *ℤ ((b *ℤ g) *ℤ d)
@@ -22,7 +23,7 @@ pub record Passes (a b c b' d' : ℤ) : Type 0 where
   pub numerator : FitsSigned w128 (a *ℤ d' +ℤ c *ℤ b')
   pub denominator : FitsSigned w128 (b *ℤ d')
 
-module _ (a b c d b' d' : ℤ) (h : IsLowest a b) (k : IsLowest c d) (r : IsReduced b d b' d') where
+module _ (a b c d b' d' : ℤ) (h : IsLowest a b) (k : IsLowest c d) (r : AreReduced b d b' d') where
   pub sum-positive : pos 1 ≤ℤ (b *ℤ d')
   sum-positive = positive-mul b d' h.positive (above d d' r.g k.positive r.second)
 

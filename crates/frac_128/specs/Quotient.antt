@@ -11,6 +11,14 @@ pub record IsLowest (num den : ℤ) : Type 0 where
 abbrev pub AreEqual : ℤ → ℤ → ℤ → ℤ → Type 0
 AreEqual a b c d = a *ℤ d ≡ c *ℤ b
 
+-- num/den = a/b + c/d
+abbrev pub IsFractionSum : ℤ → ℤ → ℤ → ℤ → ℤ → ℤ → Type 0
+IsFractionSum a b c d num den = AreEqual num den (a *ℤ d +ℤ c *ℤ b) (b *ℤ d)
+
+-- num/den = a/b · c/d
+abbrev pub IsFractionProduct : ℤ → ℤ → ℤ → ℤ → ℤ → ℤ → Type 0
+IsFractionProduct a b c d num den = AreEqual num den (a *ℤ c) (b *ℤ d)
+
 -- the numbers of a/b + c/d over the common denominator b·(d/g) are within 128 bits, for a common divisor g of b and d
 pub record SumFitsOver (a b c d : ℤ) (g : ℕ) : Type 0 where
   pub left : FitsSigned w128 (a *ℤ int_div d (pos g))
@@ -27,7 +35,7 @@ abbrev pub LowestFits : ℤ → ℤ → Type 0
 LowestFits a b = (num den : ℤ) → IsLowest num den → AreEqual num den a b → FitsSigned w128 num × FitsSigned w128 den
 
 -- p and q are a and b, each divided by their greatest common divisor g
-pub record IsReduced (a b p q : ℤ) : Type 0 where
+pub record AreReduced (a b p q : ℤ) : Type 0 where
   pub g : ℕ
   pub gcd : IsGcd (nat_abs a) (nat_abs b) g
   pub first : a ≡ p *ℤ pos g

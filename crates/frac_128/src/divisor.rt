@@ -2,7 +2,7 @@
 
 ghost use Rattle.std.specs.Prelude.{pos, ◌≤ℤ◌};
 ghost use Rattle.std.specs.Int.{IsGcd};
-ghost use Rattle.frac_128.specs.Quotient.{IsReduced};
+ghost use Rattle.frac_128.specs.Quotient.{AreReduced};
 
 /// The greatest common divisor; that of 0 and 0 is 0.
 pub fn gcd(a: u128, b: u128) -> u128
@@ -21,7 +21,7 @@ pub fn gcd(a: u128, b: u128) -> u128
 /// Both numbers, divided by their greatest common divisor.
 pub(crate) fn without_common_divisor(a: i128, b: i128) -> (i128, i128)
     requires { pos 1 ≤ℤ b }
-    ensures { IsReduced a b result.0 result.1 }
+    ensures { AreReduced a b result.0 result.1 }
 {
     let common = gcd(a.unsigned_abs(), b.unsigned_abs()) as i128;
     (a / common, b / common)

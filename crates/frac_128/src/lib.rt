@@ -1,8 +1,8 @@
 //! Exact fractions whose numerator and denominator are 128-bit whole numbers.
 #![tactic(auto)]
 
-ghost use Rattle.std.specs.Prelude.{◌↔◌, ◌≤ℤ◌, ◌+ℤ◌, ◌*ℤ◌, pos, IsSome, IfSome};
-ghost use Rattle.frac_128.specs.Quotient.{IsLowest, AreEqual, SumFits, LowestFits};
+ghost use Rattle.std.specs.Prelude.{◌↔◌, ◌≤ℤ◌, ◌*ℤ◌, pos, IsSome, IfSome};
+ghost use Rattle.frac_128.specs.Quotient.{IsLowest, AreEqual, IsFractionSum, IsFractionProduct, SumFits, LowestFits};
 
 mod divisor;
 mod order;
@@ -32,7 +32,7 @@ impl Fraction {
     /// The sum, or None where a number on the way to it over the least common denominator leaves
     /// 128 bits: either numerator brought to that denominator, their sum, or that denominator.
     pub fn checked_add(self, other: Fraction) -> Option<Fraction>
-        ensures sum { IfSome result (λ s. AreEqual s.num s.den (self.num *ℤ other.den +ℤ other.num *ℤ self.den) (self.den *ℤ other.den)) }
+        ensures sum { IfSome result (λ s. IsFractionSum self.num self.den other.num other.den s.num s.den) }
         ensures fits { IsSome result ↔ SumFits self.num self.den other.num other.den }
     {
         let (own, others) = without_common_divisor(self.den, other.den);
@@ -45,7 +45,7 @@ impl Fraction {
 
     /// The product, or None where its numerator or denominator in lowest terms leaves 128 bits.
     pub fn checked_mul(self, other: Fraction) -> Option<Fraction>
-        ensures product { IfSome result (λ p. AreEqual p.num p.den (self.num *ℤ other.num) (self.den *ℤ other.den)) }
+        ensures product { IfSome result (λ p. IsFractionProduct self.num self.den other.num other.den p.num p.den) }
         ensures fits { IsSome result ↔ LowestFits (self.num *ℤ other.num) (self.den *ℤ other.den) }
     {
         // Either numerator loses what it shares with the other denominator, so that the factors
@@ -57,6 +57,3 @@ impl Fraction {
         Some(Fraction { num, den })
     }
 }
-
-#[cfg(test)]
-mod tests;

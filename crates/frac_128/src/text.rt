@@ -1,9 +1,8 @@
 //! The text of a fraction, read and printed.
 
-ghost use Rattle.std.specs.Prelude.{◌≡◌, ◌≢◌, ℤ, IfOk, MatchOption, FitsSigned};
-ghost use Rattle.std.specs.Int.{w128};
+ghost use Rattle.std.specs.Prelude.{◌≡◌, IfOk, MatchOption};
 ghost use Rattle.std.specs.Fmt.{signed_decimal};
-ghost use Rattle.frac_128.specs.Text.{fraction_text, NamesNoFraction, IsPair};
+ghost use Rattle.frac_128.specs.Text.{fraction_text, IsFractionText, NamesNoFraction, NamesNoNumber, NoPair, IsPair};
 
 use crate::{Fraction, gcd};
 use itoa::Buffer;
@@ -13,7 +12,7 @@ use std::str;
 impl Fraction {
     /// The fraction that prints as `text`, or None where no fraction does.
     pub fn read(text: &[u8]) -> Option<Fraction>
-        ensures { MatchOption result (NamesNoFraction text.now) (λ f. text.now ≡ fraction_text f.num f.den) }
+        ensures { MatchOption result (NamesNoFraction text.now) (λ f. IsFractionText text.now f.num f.den) }
     {
         let text = str::from_utf8(text).ok()?;
         match text.split_once('/') {
@@ -41,7 +40,7 @@ impl Fraction {
 
 /// The fraction in lowest terms, its denominator at least 2, whose numbers print as the two texts.
 fn read_pair(num: &str, den: &str) -> Option<Fraction>
-    ensures { MatchOption result ((p q : ℤ) → FitsSigned w128 p → FitsSigned w128 q → IsPair num.now den.now p q → ⊥) (λ f. IsPair num.now den.now f.num f.den) }
+    ensures { MatchOption result (NoPair num.now den.now) (λ f. IsPair num.now den.now f.num f.den) }
 {
     let num = read_number(num)?;
     let den = read_number(den)?;
@@ -54,7 +53,7 @@ fn read_pair(num: &str, den: &str) -> Option<Fraction>
 
 /// The number that prints as `text`, or None where no number does.
 fn read_number(text: &str) -> Option<i128>
-    ensures { MatchOption result ((n : ℤ) → FitsSigned w128 n → text.now ≢ signed_decimal n) (λ n. text.now ≡ signed_decimal n) }
+    ensures { MatchOption result (NamesNoNumber text.now) (λ n. text.now ≡ signed_decimal n) }
 {
     let number = text.parse::<i128>().ok()?;
     // `parse` also takes a leading `+`, leading zeros and `-0`.

@@ -1,6 +1,6 @@
 -- The points where live walls meet, sorted and without repetitions, are the joints.
-use Rattle.std.proofs.Common.{◌≡◌, ℕ, sym, ap, subst, ◌∙◌, List, [], false, Ok, Err, Result, ◌⊎◌, inl, inr}
-use Rattle.std.specs.Prelude.{IsTrue, MatchResult, is_ok}
+use Rattle.std.proofs.Common.{◌≡◌, ℕ, sym, subst, List, [], false, ◌⊎◌, inl, inr}
+use Rattle.std.specs.Prelude.{IsTrue}
 use Rattle.std.specs.List.{dedup}
 use Rattle.std.specs.List.Sorted.{IsPermutation, IsSorted}
 use Rattle.scattering.specs.Collections.{In, Every, EveryPair}
@@ -43,8 +43,3 @@ module _ (n : ℕ) (ws : List Wall) (ls : List LiveWall) (live : AreLive ls ws) 
 
 pub all-near : (n : ℕ) (ws : List Wall) (rs : List CodePoint) → AreJoints n ws (points_of rs) → AllNear n ws
 all-near n ws rs h p i a = let r = In-map point_of rs p (h.all p i a) in subst IsNear (sym r.2) r.0.near
-
--- what `map_err` was given, where it gives Ok
-pub before-map : {T E D : Type 0} (r : Result T E) (s : Result T D) (Q : E → Type 0) (x : T) → MatchResult r (λ y. s ≡ Ok y) Q → is_ok s ≡ is_ok r → s ≡ Ok x → r ≡ Ok x
-before-map (Ok y) s Q x c v e = let f = sym c ∙ e in cc
-before-map (Err d) s Q x c v e = let f = ap is_ok e in absurd (cc)

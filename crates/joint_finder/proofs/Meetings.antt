@@ -1,14 +1,13 @@
 -- Points where live walls meet, collected.
 use Rattle.std.proofs.Common.{◌≡◌, ℕ, ◌+◌, ◌<◌, ◌≤◌, ◌-◌, refl, sym, ap, subst, ◌∙◌, List, [], ◌∷◌, ◌++◌, length, get_or, take, drop, Bool, true, false, arith, ◌⊎◌, inl, inr}
-use Rattle.std.specs.Prelude.{pos, neg_ℤ, nat_lt}
+use Rattle.std.specs.Prelude.{pos, nat_lt}
 use Rattle.std.specs.List.{Contains}
 use Rattle.std.specs.List.Sorted.{IsNonDecreasingBy}
 use Rattle.std.proofs.lemmas.Int.{ints}
 use Rattle.std.proofs.lemmas.List.{get_or-drop, get_or_default, length-drop}
 use Rattle.std.proofs.Math.Seq.{take-length}
-use Rattle.sum_algebra.proofs.Ring.{minus, nought, ring}
-use Rattle.sum_algebra.proofs.Ring as E
-use Rattle.sum_algebra.proofs.IntegerRing.{ints_ring, ◌:*◌, ◌:-◌, X, Y, Z}
+use Rattle.sum_algebra.proofs.Ring.{nought, ring}
+use Rattle.sum_algebra.proofs.IntegerRing.{ints_ring, ◌:*◌, ◌:-◌, X, Y}
 use Rattle.scattering.specs.Collections.{In}
 use Rattle.scattering.specs.Series.{Exp, det}
 use Rattle.scattering.specs.Plane.{Point, IsPoint}
@@ -18,7 +17,7 @@ use Rattle.plane_geom.specs.declared.Point.{Point as CodePoint}
 use Rattle.plane_geom.specs.declared.Support.{Support}
 use Rattle.plane_geom.specs.declared.Support.TheVariants.{Line, Half}
 use Rattle.plane_geom.specs.Shown.{point_of, support_at, support_dir}
-use Rattle.plane_geom.proofs.Meets.{flat}
+use Rattle.plane_geom.proofs.Meets.{flat, det-back}
 use Rattle.scatter_diagram.specs.declared.stop.Stop.{Stop}
 use Rattle.scatter_diagram.specs.declared.stop.Stop.TheVariants.{At, Memory}
 use Rattle.joint_finder.specs.declared.live.LiveWall.{LiveWall}
@@ -148,9 +147,6 @@ met-more n i ls l a b lt e h k = record { each = λ p j. each p (k.each p j); al
 
 det-self : (d : Exp) → det d d ≡ pos 0
 det-self d = ring ints_ring (d.a ∷ d.b ∷ []) (X :* Y :- Y :* X) nought refl
-
-det-back : (d e : Exp) → det e d ≡ neg_ℤ (det d e)
-det-back d e = ring ints_ring (d.a ∷ d.b ∷ e.a ∷ e.b ∷ []) (Z :* Y :- E.var 3 :* X) (minus (X :* E.var 3 :- Y :* Z)) refl
 
 meets-back : (n : ℕ) (l m : LiveWall) (p : Point) → Meets n l m p → Meets n m l p
 meets-back n l m p h = record {

@@ -30,7 +30,8 @@ fn add_crossings(
     later: &[LiveWall],
 ) -> Result<(), Stop>
     requires { IsNonDecreasingBy (λ l. l.degree) later.now }
-    ensures points { OnOk result (Adds (MeetsOne order wall.now later.now) points.old.items points.new.items) }
+    ensures points { OnOk result
+        (Adds (MeetsOne order wall.now later.now) points.old.items points.new.items) }
     ensures far { IfErr result (StopsFar order (MeetsOne order wall.now later.now)) }
 {
     for other in later {
@@ -50,7 +51,8 @@ fn add_crossing(
     other: &LiveWall,
 ) -> Result<(), Stop>
     requires { wall.now.degree + other.now.degree ≤ order }
-    ensures points { OnOk result (Adds (Meets order wall.now other.now) points.old.items points.new.items) }
+    ensures points { OnOk result
+        (Adds (Meets order wall.now other.now) points.old.items points.new.items) }
     ensures far { IfErr result (StopsFar order (Meets order wall.now other.now)) }
 {
     match meet(&wall.support, &other.support) {
@@ -73,5 +75,6 @@ fn push(points: &mut Vec<Point>, p: Point) -> Result<(), Stop>
     ensures points { OnOk result (points.new.items ≡ points.old.items ++ p ∷ []) }
     ensures memory { IfErr result (λ s. s ≡ Stop.Memory) }
 {
-    points.push(p).map_err(|_| Stop::Memory)
+    points.push(p)?;
+    Ok(())
 }

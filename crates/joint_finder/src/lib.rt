@@ -8,6 +8,3 @@ mod live;
 mod order;
 
 pub use active::joints;
-
-#[cfg(test)]
-mod tests;

@@ -1,12 +1,12 @@
 // The live walls of a diagram, each with its least degree and its support.
 
-ghost use Rattle.std.specs.Prelude.{◌≡◌, ◌≤◌, ◌+◌, ◌++◌, ◌↔◌, IsTrue, IfOk, OnOk, MatchOption, List, false};
+ghost use Rattle.std.specs.Prelude.{◌≡◌, ◌≤◌, ◌+◌, ◌↔◌, IsTrue, IfOk, OnOk, MatchOption, false};
 ghost use Rattle.std.specs.List.Sorted.{IsNonDecreasingBy};
 ghost use Rattle.scattering.specs.Collections.{Every};
 ghost use Rattle.scattering.specs.ActivePoint.{is_incoming};
-ghost use Rattle.scattering.specs.Wall.{Wall as PlaneWall, is_live, walls};
-ghost use Rattle.scatter_diagram.specs.Shown.{wall_of, walls_of};
-ghost use Rattle.joint_finder.specs.Live.{Shows, AreLive};
+ghost use Rattle.scattering.specs.Wall.{is_live, walls};
+ghost use Rattle.scatter_diagram.specs.Shown.{wall_of};
+ghost use Rattle.joint_finder.specs.Live.{Shows, AreLive, AddsLive};
 
 use plane_geom::Support;
 use scatter_diagram::{Diagram, Wall};
@@ -34,7 +34,7 @@ pub(crate) fn live_walls(alloc: Global, e: &Diagram) -> Result<Vec<LiveWall>, Al
 
 /// Appends those of the walls that are live.
 fn add_live(live: &mut Vec<LiveWall>, walls: &[Wall]) -> Result<(), AllocError>
-    ensures { OnOk result ((seen : List PlaneWall) → AreLive live.old.items seen → AreLive live.new.items (seen ++ walls_of walls.now)) }
+    ensures { OnOk result (AddsLive walls.now live.old.items live.new.items) }
 {
     for w in walls {
         if let Some(shown) = live_wall(w) {

@@ -8,9 +8,10 @@ use Rattle.scattering.specs.Series.{Exp, Key, Sum, degree, det, key_eq, key_mul,
 use Rattle.scattering.specs.LocalProduct.{Half, cross, cross_majorant, carry, carry_majorant}
 use Rattle.scattering.proofs.DistinctKeys.{own-coefficients, series-distinct}
 use Rattle.scattering.proofs.Lists.{Every-append, Every-filter}
+use Rattle.scattering.proofs.ShiftedSums.{degree-mul}
 use Rattle.trunc_series.specs.Arithmetic.{limit}
 use Rattle.trunc_series.specs.Capped.{IsMajorantOf}
-use Rattle.trunc_series.specs.Shown.{Seen, IsSeriesOf, IsNear}
+use Rattle.trunc_series.specs.Shown.{Seen, IsSeriesOf, HasNearTerms}
 use Rattle.local_product.specs.Shown.{IsUnit}
 use Rattle.trunc_series.proofs.PowerLaws.{mul-every, key-from}
 
@@ -20,9 +21,6 @@ Around m x = (nat_abs (x.exp.a -ℤ m.a) ≤ 64 * degree x) × (nat_abs (x.exp.b
 
 abbrev pub AreAround : Exp → Sum → Type 0
 AreAround m f = Every (λ t. Around m t.0) f
-
-degree-mul : (k l : Key) → degree (key_mul k l) ≡ degree k + degree l
-degree-mul k l = omega arith
 
 within : (x y m : ℤ) (c d e : ℕ) → e ≡ c + d → nat_abs (x -ℤ m) ≤ 64 * c → nat_abs (y -ℤ pos 0) ≤ 64 * d → nat_abs ((x +ℤ y) -ℤ m) ≤ 64 * e
 within x y m c d e q h k = omega (arith, ints, q, h, k)
@@ -113,6 +111,6 @@ majorant-of-around k m s f h a = keys-from (Around m) s.terms f (k, h.series) (�
 close : (x m : ℤ) (d : ℕ) → nat_abs m ≤ 1 → d ≤ 24 → nat_abs (x -ℤ m) ≤ 64 * d → nat_abs x ≤ 2 ^ 16
 close x m d u l h = omega (arith, ints, u, l, h)
 
-pub around-near : (n : ℕ) (m : Exp) (f : Sum) → n ≤ 24 → IsUnit m → AreAround m f → Every (λ t. degree t.0 ≤ n) f → IsNear f
+pub around-near : (n : ℕ) (m : Exp) (f : Sum) → n ≤ 24 → IsUnit m → AreAround m f → Every (λ t. degree t.0 ≤ n) f → HasNearTerms f
 around-near n m [] l u a d = tt
 around-near n m (t ∷ f) l u a d = let p = d.0 in ((close t.0.exp.a m.a (degree t.0) u.0 (omega (arith, p, l)) a.0.0, close t.0.exp.b m.b (degree t.0) u.1 (omega (arith, p, l)) a.0.1), around-near n m f l u a.1 d.1)

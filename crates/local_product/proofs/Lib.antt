@@ -1,6 +1,4 @@
 pub mod StableSorting
-pub mod Substituted
-pub mod Saturated
 pub mod LowDegrees
 pub mod Exponents
 pub mod Sides
@@ -8,6 +6,5 @@ pub mod Raised
 pub mod Stages
 pub mod Local
 pub mod Obstructed
-pub mod Worked
 pub mod OneVariable
 pub mod OneVariableFunctions

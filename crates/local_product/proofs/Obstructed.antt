@@ -19,8 +19,7 @@ use Rattle.completion_theory.proofs.LowerOrders.{image-cut}
 use Rattle.completion_theory.proofs.CorrectionExists.{correction, whole-at}
 use Rattle.completion_theory.proofs.UniqueCompletion.{on_axis}
 use Rattle.completion_theory.proofs.UniqueCorrection.{correction_is_unique}
-use Rattle.correction_theory.proofs.MergedTerms.{zero-or-not}
-use Rattle.trunc_series.specs.Shown.{Seen, IsSeriesOf, IsNear}
+use Rattle.trunc_series.specs.Shown.{Seen, IsSeriesOf, HasNearTerms}
 use Rattle.trunc_series.proofs.PowerLaws.{key-from}
 use Rattle.weight_theory.specs.Laws.{HaveFunctions}
 use Rattle.weight_theory.proofs.CorrectionMasses.{correction-is-light}
@@ -32,6 +31,7 @@ use Rattle.local_product.proofs.LowDegrees.{image-cut_walls}
 use Rattle.local_product.specs.Shown.{IsUnit}
 use Rattle.local_product.proofs.Exponents.{Around, AreAround, carry-around, monomial-around, series-around, around-near}
 use Rattle.local_product.proofs.Stages.{tame-around}
+use Rattle.sum_algebra.proofs.Integers.{zero-or-not}
 
 -- ---- exponents
 
@@ -42,7 +42,7 @@ image-around : (ws : List Wall) (p : Point) (n : ℕ) → AreTame ws → (m : Ex
 image-around ws p n tame m =
     carry-around n (half_walls ws p) m (monomial (z m)) (of_halves (λ w. AreAround origin w.function) p ws (Every-implies (λ w. Every IsTame w.function) (λ w. AreAround origin w.function) ws (λ w t. tame-around w.function t) tame)) (monomial-around m)
 
-pub image-near : (ws : List Wall) (p : Point) (n : ℕ) → n ≤ 24 → AreTame ws → (m : Exp) → IsUnit m → (s : Seen) → IsSeriesOf s n (image ws p n m) → IsNear s.terms
+pub image-near : (ws : List Wall) (p : Point) (n : ℕ) → n ≤ 24 → AreTame ws → (m : Exp) → IsUnit m → (s : Seen) → IsSeriesOf s n (image ws p n m) → HasNearTerms s.terms
 image-near ws p n l tame m u s is = around-near n m s.terms l u (series-around n m s (image ws p n m) is (image-around ws p n tame m)) is.series.low
 
 module _ (ws : List Wall) (p : Point) (n : ℕ) (h : Lie) (tame : AreTame ws) (c : IsCorrection ws p n h) where

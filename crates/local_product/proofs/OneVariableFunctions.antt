@@ -8,18 +8,19 @@ use native.Mathlib.Decide.{dec_le}
 use Rattle.scattering.specs.Collections.{Every}
 use Rattle.scattering.specs.Series.{Exp, Key, Term, Sum, Same, degree, det, origin, unit, key_eq, coef, mul, pow, powers_to, rest, absolute, geometric, mass_to, IsMultiple, IsWallFunction}
 use Rattle.scattering.specs.LocalProduct.{cross_majorant}
-use Rattle.scattering.proofs.Keys.{key_eq-same, key_eq-apart}
+use Rattle.scattering.proofs.Keys.{key_eq-same}
 use Rattle.scattering.proofs.Lists.{Every-implies}
 use Rattle.scattering.proofs.Pairing.{coef-without}
 use Rattle.scattering.proofs.DistinctKeys.{series-distinct}
+use Rattle.scattering.proofs.Coefficients.{coef-above, mass-absolute, rest-absolute}
 use Rattle.trunc_series.specs.Arithmetic.{limit}
 use Rattle.trunc_series.specs.Capped.{IsMajorantOf}
-use Rattle.trunc_series.specs.Shown.{Seen, IsSeriesOf, IsNear, IsValid, IsTerm, key_of, term_of, sum_of}
-use Rattle.trunc_series.specs.Reduced.{IsReduced}
+use Rattle.trunc_series.specs.Shown.{Seen, IsSeriesOf, HasNearTerms, IsValid, IsTerm, key_of, term_of, sum_of}
+use Rattle.trunc_series.specs.Reduced.{IsKeptAs}
 use Rattle.trunc_series.specs.declared.key.Key.{Key as CodeKey}
 use Rattle.trunc_series.proofs.Terms.{at}
 use Rattle.trunc_series.proofs.Exact.{exact-valid, exact-same}
-use Rattle.plane_geom.specs.Shown.{exp_of}
+use Rattle.plane_geom.specs.Shown.{vector_of}
 use Rattle.scatter_diagram.specs.declared.wall.Wall.{Wall as CodeWall}
 use Rattle.trunc_series.specs.declared.arithmetic.Arithmetic.TheVariants.{Saturating, Wrapping}
 use Rattle.trunc_series.proofs.Coefficients.{apart-rising, has-coef, keepable-coef}
@@ -30,18 +31,10 @@ use Rattle.weight_theory.proofs.Bounds.{bounds-itself, absolute-nonnegative}
 use Rattle.weight_theory.proofs.Masses.{coef-absolute, coefficient-is-below}
 use Rattle.local_product.specs.OneVariable.{one_variable, in_one_variable}
 use Rattle.local_product.proofs.Exponents.{AreAround, keys-from, series-around, around-near, absolute-around}
-use Rattle.local_product.proofs.Saturated.{crossed-majorant}
+use Rattle.wall_auto.proofs.Saturated.{crossed-majorant}
 use Rattle.local_product.proofs.OneVariable.{HasOthers, first-other, stays-unit, same-degree, absolute-one_variable, majorant-one_variable, mass-one_variable, around-one_variable, nonnegative-one_variable}
 
 -- ---- absolute values
-
-rest-absolute : (f : Sum) → rest (absolute f) ≡ absolute (rest f)
-rest-absolute [] = refl
-rest-absolute (t ∷ f) = go (key_eq t.0 unit) (rest-absolute f)
-  where
-    go : (b : Bool) → rest (absolute f) ≡ absolute (rest f) → cond (not b) ((t.0, pos (nat_abs t.1)) ∷ rest (absolute f)) (rest (absolute f)) ≡ absolute (cond (not b) (t ∷ rest f) (rest f))
-    go true e = e
-    go false e = ap (λ r. (t.0, pos (nat_abs t.1)) ∷ r) e
 
 absolute-itself : (f : Sum) → IsNonnegative f → absolute f ≡ f
 absolute-itself [] h = refl
@@ -49,10 +42,6 @@ absolute-itself (t ∷ f) h = let e = same t.1 h.0 in let r = absolute-itself f 
   where
     same : (c : ℤ) → pos 0 ≤ℤ c → pos (nat_abs c) ≡ c
     same c l = omega (arith, ints, l)
-
-mass-absolute : (k : ℕ) (f : Sum) → mass_to k (absolute f) ≡ mass_to k f
-mass-absolute k [] = refl
-mass-absolute k (t ∷ f) = ap (λ m. (elim (nat_le (degree t.0) k) [ true ↦ nat_abs t.1 | false ↦ 0 ]) + m) (mass-absolute k f)
 
 absolute-others : (f : Sum) → HasOthers f → HasOthers (absolute f)
 absolute-others f h = subst (Every (λ (t : Term). 1 ≤ degree t.0)) (sym (rest-absolute f)) (each (rest f) h)
@@ -82,10 +71,6 @@ unit-split k (t ∷ f) = go (key_eq t.0 unit) refl (unit-split k f)
         more : (c : Bool) → nat_abs (pos 0 +ℤ coef f unit) + ((elim c [ true ↦ nat_abs t.1 | false ↦ 0 ]) + mass_to k (rest f)) ≤ (elim c [ true ↦ nat_abs t.1 | false ↦ 0 ]) + mass_to k f
         more true = omega (arith, ints, h)
         more false = omega (arith, ints, h)
-
-above-none : (k : ℕ) (f : Sum) (x : Key) → Every (λ t. degree t.0 ≤ k) f → k < degree x → coef f x ≡ pos 0
-above-none k [] x h l = refl
-above-none k (t ∷ f) x h l = let p = h.0 in rw (key_eq-apart t x (λ e. absurd (omega (arith, e, p, l))), above-none k f x h.1 l) refl
 
 others-of : (Q : Term → Type 0) (f : Sum) → Every Q (rest f) → Every (λ t. key_eq t.0 unit ≡ false → Q t) f
 others-of Q [] h = tt
@@ -145,7 +130,7 @@ module _ (k : ℕ) (d : Exp) (f : Sum) (w : IsWallFunction k d f) where
           let a : nat_abs (coef (rest bound) x) ≤ mass_to k (rest bound) = coefficient-is-below k (rest bound) (rest bound) x l (from_Bounds k (rest bound) (rest bound) (bounds-itself k (rest bound) rest-nonnegative)) in
           let s = unit-split k bound in
           rw (← c) (omega (arith, a, ap nat_abs bound-unit, s, bound-mass, m))
-      go false e (no l) = rw (above-none k bound x bound-low (omega arith)) (omega arith)
+      go false e (no l) = rw (coef-above k bound x bound-low (omega arith)) (omega arith)
 
   module _ (s : Seen) (is : IsSeriesOf s k bound) where
     pub one_variable-function : IsWallFunction k d s.terms
@@ -163,7 +148,7 @@ module _ (k : ℕ) (d : Exp) (f : Sum) (w : IsWallFunction k d f) where
             let q = first-other t g o in
             ((λ n. let r = h.0 (sym (stays-unit t.0 q.0) ∙ n) in let l = r.0 in let e = same-degree t.0 in (omega (arith, l, e), r.1)), each g h.1 q.1)
 
-    pub one_variable-near : k ≤ 24 → AreAround origin f → IsNear s.terms
+    pub one_variable-near : k ≤ 24 → AreAround origin f → HasNearTerms s.terms
     one_variable-near l a = around-near k origin s.terms l (omega arith, omega arith) (series-around k origin s bound is (around-one_variable origin (absolute f) (absolute-around f a))) is.series.low
 
     series-nonnegative : IsNonnegative s.terms
@@ -226,9 +211,9 @@ terms-more a out i l c h s p q =
     ∙ sym (ap (λ f. in_one_variable (absolute f)) (map_more term_of a i _ h) ∙ ap in_one_variable (map-append (λ (t : Term). (t.0, pos (nat_abs t.1))) (sum_of (take i a)) (term_of (at a i) ∷ []))
     ∙ map-append (λ (t : Term). (one_variable t.0, t.1)) (absolute (sum_of (take i a))) (absolute (term_of (at a i) ∷ [])))
 
-module _ (w : CodeWall) (r : Sum) (h : IsReduced Wrapping w.function.order r (in_one_variable (absolute w.function.terms))) where
+module _ (w : CodeWall) (r : Sum) (h : IsKeptAs Wrapping w.function.order r (in_one_variable (absolute w.function.terms))) where
   small-sum : (x : Key) → nat_abs (coef (in_one_variable (absolute w.function.terms)) x) < 2 ^ 127
-  small-sum = bound-small w.function.order (exp_of w.dir) w.function.terms w.proper.function w.proper.mass
+  small-sum = bound-small w.function.order (vector_of w.dir) w.function.terms w.proper.function w.proper.mass
 
   pub function-valid : w.function.order ≤ 24 → IsValid w.function.order r
   function-valid o = exact-valid w.function.order r (in_one_variable (absolute w.function.terms)) o h small-sum

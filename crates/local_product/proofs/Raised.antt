@@ -1,26 +1,19 @@
 -- A wall's function read at a higher order.
-use Rattle.std.proofs.Common.{◌≡◌, ◌≢◌, ℕ, ◌+◌, ◌<◌, ◌≤◌, ◌^◌, sym, subst, Bool, true, false, [], ◌∷◌, arith}
-use Rattle.std.specs.Prelude.{nat_abs, nat_le, pos}
+use Rattle.std.proofs.Common.{◌≡◌, ℕ, ◌+◌, ◌≤◌, ◌^◌, sym, subst, Bool, true, false, [], ◌∷◌, arith}
+use Rattle.std.specs.Prelude.{nat_abs, nat_le}
 use Rattle.std.proofs.lemmas.Bool.{le-leb}
 use Rattle.scattering.specs.Collections.{Every}
 use Rattle.scattering.specs.Series.{Term, Sum, degree, cut, mass_to, IsSeries, IsWallFunction}
 use Rattle.scattering.proofs.Lists.{Every-implies}
-use Rattle.completion_theory.proofs.RaisedDiagram.{cut-low}
-use Rattle.plane_geom.specs.Shown.{exp_of}
-use Rattle.trunc_series.specs.Shown.{Seen, IsTerm, IsSeriesOf, IsValid}
+use Rattle.scattering.proofs.Coefficients.{cut-low}
+use Rattle.plane_geom.specs.Shown.{vector_of}
+use Rattle.trunc_series.specs.Shown.{Seen, IsSeriesOf}
 use Rattle.trunc_series.proofs.Unique.{series-terms}
 use Rattle.scatter_diagram.specs.declared.wall.Wall.{Wall as CodeWall}
 use Rattle.scatter_diagram.specs.Proper.{IsProper, IsTame}
 
 series-raised : (m n : ℕ) (f : Sum) → m ≤ n → IsSeries m f → IsSeries n f
 series-raised m n f l h = record { rises = h.rises; nonzero = h.nonzero; low = Every-implies (λ (t : Term). degree t.0 ≤ m) (λ t. degree t.0 ≤ n) f (λ t d. omega (arith, d, l)) h.low }
-
-pub terms-raised : (m n : ℕ) (f : Sum) → m ≤ n → IsValid m f → Every (IsTerm n) f
-terms-raised m n f l v = go f v.series.nonzero v.small v.series.low
-  where
-    go : (g : Sum) → Every (λ t. t.1 ≢ pos 0) g → Every (λ t. nat_abs t.1 < 2 ^ 127) g → Every (λ t. degree t.0 ≤ m) g → Every (IsTerm n) g
-    go [] a b c = tt
-    go (t ∷ g) a b c = let d = c.0 in ((a.0, b.0, omega (arith, d, l)), go g a.1 b.1 c.1)
 
 mass-raised : (m n : ℕ) (f : Sum) → Every (λ t. degree t.0 ≤ m) f → mass_to n f ≤ mass_to m f
 mass-raised m n [] h = omega arith
@@ -42,8 +35,8 @@ function-raised w n s l h = (record { function = made; mass = mass; tame = subst
     low : cut n w.function.terms ≡ w.function.terms
     low = cut-low n w.function.terms series.low
 
-    made : IsWallFunction s.order (exp_of w.dir) s.terms
-    made = subst (λ (f : Sum). IsWallFunction s.order (exp_of w.dir) f) (sym e) (subst (λ (m : ℕ). IsWallFunction m (exp_of w.dir) w.function.terms) (sym h.order) (record { series = series; constant = w.proper.function.constant; others = w.proper.function.others }))
+    made : IsWallFunction s.order (vector_of w.dir) s.terms
+    made = subst (λ (f : Sum). IsWallFunction s.order (vector_of w.dir) f) (sym e) (subst (λ (m : ℕ). IsWallFunction m (vector_of w.dir) w.function.terms) (sym h.order) (record { series = series; constant = w.proper.function.constant; others = w.proper.function.others }))
 
     mass : mass_to s.order s.terms ≤ 2 ^ 127
     mass = rw (h.order, e) (let a = mass-raised w.function.order n w.function.terms w.proper.function.series.low in omega (arith, a, w.proper.mass))

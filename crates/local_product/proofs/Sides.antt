@@ -15,7 +15,7 @@ use Rattle.scattering.specs.Wall.{Wall}
 use Rattle.scattering.specs.LocalProduct.{along, halves, half_walls}
 use Rattle.scattering.proofs.Lists.{Every-in_order, Every-left, Every-right, map-append}
 use Rattle.plane_theory.proofs.Directions.{direction-not_origin, scale-not_origin}
-use Rattle.plane_geom.specs.Shown.{exp_of, turn_order}
+use Rattle.plane_geom.specs.Shown.{vector_of, turn_order}
 use Rattle.crossing_theory.proofs.OtherFunctions.{before, in_order-map}
 use Rattle.crossing_theory.proofs.SortingByAngle.{turns-trans, turns-asym}
 use Rattle.scatter_diagram.specs.declared.wall.Wall.{Wall as CodeWall}
@@ -56,7 +56,7 @@ has-side Plus e = omega (arith, ints, e)
 has-side Minus e = omega (arith, ints, e)
 
 directed : (h : HalfWall) → along (half_of h) ≢ origin
-directed h = scale-not_origin (neg_ℤ (sign h.side)) (exp_of h.wall.now.dir) (has-side h.side) (direction-not_origin (exp_of h.wall.now.dir) h.wall.now.dir.primitive)
+directed h = scale-not_origin (neg_ℤ (sign h.crossing)) (vector_of h.wall.now.dir) (has-side h.crossing) (direction-not_origin (vector_of h.wall.now.dir) h.wall.now.dir.primitive)
 
 pub halves-ordered : IsStrictWeakOrder half_before
 halves-ordered = record {

@@ -6,10 +6,10 @@ use Rattle.std.proofs.lemmas.List.{map_more, take-append-drop, map-append}
 use Rattle.scattering.specs.Collections.{Every}
 use Rattle.scattering.specs.Series.{Exp, Sum, det, origin, degree, coef, absolute, power, monomial, z, mass_to, IsSeries, IsWallFunction}
 use Rattle.scattering.specs.LocalProduct.{Half, cross, cross_half, cross_majorant, carry, carry_majorant}
-use Rattle.trunc_series.specs.Shown.{Seen, IsSeriesOf, IsNear}
+use Rattle.trunc_series.specs.Shown.{Seen, IsSeriesOf, HasNearTerms}
 use Rattle.trunc_series.specs.Capped.{IsMajorantOf}
 use Rattle.trunc_series.proofs.Unique.{series-terms}
-use Rattle.plane_geom.specs.Shown.{exp_of}
+use Rattle.plane_geom.specs.Shown.{vector_of}
 use Rattle.weight_theory.specs.Laws.{IsBelow, AreHalves}
 use Rattle.weight_theory.proofs.Stages.{carry-append as majorant-append, carry-nonnegative, monomial-nonnegative, stage-is-light, image-is-below}
 use Rattle.weight_theory.proofs.Bounds.{absolute-nonnegative}
@@ -21,10 +21,10 @@ use Rattle.wall_auto.specs.Sign.{sign}
 use Rattle.local_product.specs.declared.half_walls.HalfWall.{HalfWall}
 use Rattle.local_product.specs.Shown.{half_of, halves_of, HalvesHaveOrder, IsUnit}
 use Rattle.local_product.specs.OneVariable.{in_one_variable}
-use Rattle.local_product.proofs.Substituted.{substituted-same}
+use Rattle.wall_auto.proofs.Substituted.{substituted-same}
 use Rattle.local_product.proofs.OneVariable.{around-one_variable, nonnegative-one_variable, mass-one_variable}
 use Rattle.local_product.proofs.OneVariableFunctions.{one_variable-crossed}
-use Rattle.local_product.proofs.Saturated.{crossed-majorant, kept-mass}
+use Rattle.wall_auto.proofs.Saturated.{kept-mass}
 use Rattle.local_product.proofs.Exponents.{AreAround, carry-around, carry_majorant-around, monomial-around, series-around, majorant-of-around, around-near}
 
 -- ---- what each half-wall of the program has
@@ -53,13 +53,13 @@ sign-twice Minus = refl
 
 pub are-halves : (hs : List HalfWall) → AreHalves (halves_of hs)
 are-halves [] = tt
-are-halves (h ∷ hs) = (((h.wall.now.function.order, h.wall.now.proper.function), unit-side h.side), are-halves hs)
+are-halves (h ∷ hs) = (((h.wall.now.function.order, h.wall.now.proper.function), unit-side h.crossing), are-halves hs)
 
-pub function-near : (n : ℕ) (h : HalfWall) → n ≤ 24 → h.wall.now.function.order ≡ n → IsNear h.wall.now.function.terms
+pub function-near : (n : ℕ) (h : HalfWall) → n ≤ 24 → h.wall.now.function.order ≡ n → HasNearTerms h.wall.now.function.terms
 function-near n h l e = around-near h.wall.now.function.order origin h.wall.now.function.terms (omega (arith, e, l)) (omega arith, omega arith) (function-around h) h.wall.now.proper.function.series.low
 
-pub function-at : (h : HalfWall) (n : ℕ) → h.wall.now.function.order ≡ n → IsWallFunction n (exp_of h.wall.now.dir) h.wall.now.function.terms
-function-at h n e = subst (λ (m : ℕ). IsWallFunction m (exp_of h.wall.now.dir) h.wall.now.function.terms) e h.wall.now.proper.function
+pub function-at : (h : HalfWall) (n : ℕ) → h.wall.now.function.order ≡ n → IsWallFunction n (vector_of h.wall.now.dir) h.wall.now.function.terms
+function-at h n e = subst (λ (m : ℕ). IsWallFunction m (vector_of h.wall.now.dir) h.wall.now.function.terms) e h.wall.now.proper.function
 
 -- ---- one half-wall more
 
@@ -75,7 +75,7 @@ module _ (k : ℕ) (small : k ≤ 24) (m : Exp) (unit : IsUnit m) (hs : List Hal
   so_far i = halves_of (take i hs)
 
   module _ (i : ℕ) (g : Seen) (is : IsSeriesOf g k (carry k (so_far i) start)) where
-    pub stage-near : IsNear g.terms
+    pub stage-near : HasNearTerms g.terms
     stage-near = around-near k m g.terms small unit (series-around k m g _ is (carry-around k (so_far i) m start (functions-around (take i hs)) (monomial-around m))) is.series.low
 
     below : IsBelow k (absolute g.terms) (carry_majorant k (so_far i) start)
@@ -88,42 +88,22 @@ module _ (k : ℕ) (small : k ≤ 24) (m : Exp) (unit : IsUnit m) (hs : List Hal
       all : halves_of hs ≡ so_far (i + 1) ++ halves_of (drop (i + 1) hs)
       all = ap halves_of (sym (take-append-drop (i + 1) hs)) ∙ map-append half_of (take (i + 1) hs) (drop (i + 1) hs)
 
-      pub stage-mass : mass_to k (cross_majorant k (exp_of h.wall.now.dir) h.wall.now.function.terms (absolute g.terms)) ≤ mass_to k (carry_majorant k (halves_of hs) start)
+      pub stage-mass : mass_to k (cross_majorant k (vector_of h.wall.now.dir) h.wall.now.function.terms (absolute g.terms)) ≤ mass_to k (carry_majorant k (halves_of hs) start)
       stage-mass =
-          le_trans (majorant-mass-is-monotone k (exp_of h.wall.now.dir) h.wall.now.function.terms (absolute g.terms) (carry_majorant k (so_far i) start) (absolute-nonnegative k g.terms) below)
+          le_trans (majorant-mass-is-monotone k (vector_of h.wall.now.dir) h.wall.now.function.terms (absolute g.terms) (carry_majorant k (so_far i) start) (absolute-nonnegative k g.terms) below)
           (subst (λ (f : Sum). mass_to k f ≤ mass_to k (carry_majorant k (halves_of hs) start)) (ap (λ (us : List Half). carry_majorant k us start) next ∙ majorant-append k (so_far i) (half_of h ∷ []) start)
           (subst (λ (us : List Half). mass_to k (carry_majorant k (so_far (i + 1)) start) ≤ mass_to k (carry_majorant k us start)) (sym all) (stage-is-light k (so_far (i + 1)) (halves_of (drop (i + 1) hs)) start (monomial-nonnegative (z m)))))
 
-      pub stage-next : (s : Seen) → IsSeriesOf s k (cross k (exp_of h.wall.now.dir) h.wall.now.function.terms (sign h.side) g.terms) → IsSeriesOf s k (carry k (so_far (i + 1)) start)
+      pub stage-next : (s : Seen) → IsSeriesOf s k (cross k (vector_of h.wall.now.dir) h.wall.now.function.terms (sign h.crossing) g.terms) → IsSeriesOf s k (carry k (so_far (i + 1)) start)
       stage-next s c = record {
         order = c.order;
         series = c.series;
         same = λ x.
             c.same x
-            ∙ ap (λ n. coef (cross k (exp_of h.wall.now.dir) h.wall.now.function.terms n g.terms) x) (sym (sign-twice h.side))
-            ∙ substituted-same k (λ y. power k h.wall.now.function.terms (neg_ℤ (neg_ℤ (sign h.side)) *ℤ det (exp_of h.wall.now.dir) y.exp)) g.terms (carry k (so_far i) start) is.same x
+            ∙ ap (λ n. coef (cross k (vector_of h.wall.now.dir) h.wall.now.function.terms n g.terms) x) (sym (sign-twice h.crossing))
+            ∙ substituted-same k (λ y. power k h.wall.now.function.terms (neg_ℤ (neg_ℤ (sign h.crossing)) *ℤ det (vector_of h.wall.now.dir) y.exp)) g.terms (carry k (so_far i) start) is.same x
             ∙ ap (λ f. coef f x) (sym (ap (λ (us : List Half). carry k us start) next ∙ carry-append k (so_far i) (half_of h ∷ []) start));
       }
-
-  -- ---- the same of majorants
-
-  module _ (i : ℕ) (g : Seen) (is : IsMajorantOf g k (carry_majorant k (so_far i) start)) where
-    pub majorant-near : IsNear g.terms
-    majorant-near = around-near k m g.terms small unit (majorant-of-around k m g _ is (carry_majorant-around k (so_far i) m start (functions-around (take i hs)) (monomial-around m))) is.series.low
-
-    pub majorant-next : (h : HalfWall) → i < length hs → h ≡ get_or hs i h → (s : Seen) → IsMajorantOf s k (cross_majorant k (exp_of h.wall.now.dir) h.wall.now.function.terms g.terms) → IsMajorantOf s k (carry_majorant k (so_far (i + 1)) start)
-    majorant-next h l e s c =
-        subst (λ (f : Sum). IsMajorantOf s k f)
-        (sym (ap (λ (us : List Half). carry_majorant k us start) (map_more half_of hs i h l ∙ ap (λ (u : HalfWall). so_far i ++ half_of u ∷ []) (sym e)) ∙ majorant-append k (so_far i) (half_of h ∷ []) start))
-        (crossed-majorant k g (carry_majorant k (so_far i) start) is (carry-nonnegative k (so_far i) start (monomial-nonnegative (z m))) (exp_of h.wall.now.dir) h.wall.now.function.terms s c)
-
--- ---- the mass
-
-pub stage-weight : (k : ℕ) (m : Exp) (hs : List HalfWall) (g : Seen) → IsMajorantOf g k (carry_majorant k (halves_of hs) (monomial (z m))) → (w : ℕ) → w ≡ min (mass_to g.order g.terms) (2 ^ 126 + 1) → w ≡ min (mass_to k (carry_majorant k (halves_of hs) (monomial (z m)))) (2 ^ 126 + 1)
-stage-weight k m hs g is w e =
-    e
-    ∙ ap (λ (n : ℕ). min (mass_to n g.terms) (2 ^ 126 + 1)) is.order
-    ∙ kept-mass k g (carry_majorant k (halves_of hs) (monomial (z m))) is (carry-nonnegative k (halves_of hs) (monomial (z m)) (monomial-nonnegative (z m)))
 
 -- ---- the start
 
@@ -143,17 +123,17 @@ order-at n (u ∷ hs) (suc i) h l e o = order-at n hs i h (omega (arith, l)) e o
 -- ---- majorants in one variable
 
 module _ (k : ℕ) (small : k ≤ 24) (m : Exp) (unit : IsUnit m) (hs : List HalfWall) (i : ℕ) (g : Seen) (is : IsMajorantOf g k (in_one_variable (carry_majorant k (halves_of (take i hs)) (monomial (z m))))) where
-  pub one_variable-majorant-near : IsNear g.terms
+  pub one_variable-majorant-near : HasNearTerms g.terms
   one_variable-majorant-near =
       around-near k m g.terms small unit
       (majorant-of-around k m g _ is (around-one_variable m _ (carry_majorant-around k (halves_of (take i hs)) m (monomial (z m)) (functions-around (take i hs)) (monomial-around m)))) is.series.low
 
   pub one_variable-next : (h : HalfWall) → i < length hs → h ≡ get_or hs i h → h.wall.now.function.order ≡ k → (s : Seen) → IsSeriesOf s k (in_one_variable (absolute h.wall.now.function.terms))
-      → (t : Seen) → IsMajorantOf t k (cross_majorant k (exp_of h.wall.now.dir) s.terms g.terms) → IsMajorantOf t k (in_one_variable (carry_majorant k (halves_of (take (i + 1) hs)) (monomial (z m))))
+      → (t : Seen) → IsMajorantOf t k (cross_majorant k (vector_of h.wall.now.dir) s.terms g.terms) → IsMajorantOf t k (in_one_variable (carry_majorant k (halves_of (take (i + 1) hs)) (monomial (z m))))
   one_variable-next h l e o s f t c =
       subst (λ (u : Sum). IsMajorantOf t k (in_one_variable u))
       (sym (ap (λ (us : List Half). carry_majorant k us (monomial (z m))) (map_more half_of hs i h l ∙ ap (λ (u : HalfWall). halves_of (take i hs) ++ half_of u ∷ []) (sym e)) ∙ majorant-append k (halves_of (take i hs)) (half_of h ∷ []) (monomial (z m))))
-      (one_variable-crossed k (exp_of h.wall.now.dir) h.wall.now.function.terms (function-at h k o) s f g t (carry_majorant k (halves_of (take i hs)) (monomial (z m))) is (carry-nonnegative k (halves_of (take i hs)) (monomial (z m)) (monomial-nonnegative (z m))) c)
+      (one_variable-crossed k (vector_of h.wall.now.dir) h.wall.now.function.terms (function-at h k o) s f g t (carry_majorant k (halves_of (take i hs)) (monomial (z m))) is (carry-nonnegative k (halves_of (take i hs)) (monomial (z m)) (monomial-nonnegative (z m))) c)
 
 pub one_variable-weight : (k : ℕ) (m : Exp) (hs : List HalfWall) (g : Seen) → IsMajorantOf g k (in_one_variable (carry_majorant k (halves_of hs) (monomial (z m)))) → (w : ℕ) → w ≡ min (mass_to g.order g.terms) (2 ^ 126 + 1) → w ≡ min (mass_to k (carry_majorant k (halves_of hs) (monomial (z m)))) (2 ^ 126 + 1)
 one_variable-weight k m hs g is w e =

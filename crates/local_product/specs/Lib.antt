@@ -1,4 +1,4 @@
 pub mod Shown
+pub mod Local
 pub mod Obstruction
-pub mod Worked
 pub mod OneVariable

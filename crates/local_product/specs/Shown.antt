@@ -1,15 +1,23 @@
--- Half-walls of the program as the definitions see them.
-use Rattle.std.specs.Prelude.{◌≡◌, ℕ, ◌+◌, ◌≤◌, Bool, neg_ℤ, nat_abs, List, map}
+-- Half-walls of the program as the definitions see them, and what is carried across them.
+--     half_of, halves_of        half-walls of the program
+--     carried n hs m            the image of z^m after these half-walls
+--     carried_mass n hs m       the mass of its majorant
+--     counted_weight m                 a mass as it is counted_weight: to 2^126 + 1
+use Rattle.std.specs.Prelude.{◌≡◌, ℕ, ◌+◌, ◌≤◌, ◌++◌, Bool, neg_ℤ, nat_abs, List, map, flat_map, min}
+use Rattle.limits.specs.Limits.{largest_weight}
 use Rattle.scattering.specs.Collections.{Every}
-use Rattle.scattering.specs.Series.{Exp, mass_to, monomial, z}
-use Rattle.scattering.specs.LocalProduct.{Half, along, carry_majorant, axis_x, axis_y}
+use Rattle.scattering.specs.Series.{Exp, Sum, mass_to, monomial, z}
+use Rattle.scattering.specs.LocalProduct.{Half, along, halves, half_walls, carry, carry_majorant, axis_x, axis_y}
 use Rattle.scattering.specs.Plane.{turns_before}
-use Rattle.scatter_diagram.specs.Shown.{wall_of}
+use Rattle.plane_geom.specs.Shown.{point_of}
+use Rattle.plane_geom.specs.declared.Point.{Point as CodePoint}
+use Rattle.scatter_diagram.specs.declared.wall.Wall.{Wall as CodeWall}
+use Rattle.scatter_diagram.specs.Shown.{wall_of, walls_of}
 use Rattle.wall_auto.specs.Sign.{sign}
 use Rattle.local_product.specs.declared.half_walls.HalfWall.{HalfWall}
 
 abbrev pub half_of : HalfWall → Half
-half_of h = record { wall = wall_of h.wall.now; side = neg_ℤ (sign h.side) }
+half_of h = record { wall = wall_of h.wall.now; side = neg_ℤ (sign h.crossing) }
 
 abbrev pub halves_of : List HalfWall → List Half
 halves_of hs = map half_of hs
@@ -22,10 +30,34 @@ half_before g h = turns_before (along (half_of g)) (along (half_of h))
 abbrev pub HalvesHaveOrder : ℕ → List HalfWall → Type 0
 HalvesHaveOrder n hs = Every (λ h. h.wall.now.function.order ≡ n) hs
 
+abbrev pub KeepsOrder : ℕ → List HalfWall → List HalfWall → Type 0
+KeepsOrder n old new = HalvesHaveOrder n old → HalvesHaveOrder n new
+
+-- the half-walls of one wall more
+abbrev pub AddsHalves : CodePoint → CodeWall → List HalfWall → List HalfWall → Type 0
+AddsHalves p w old new = halves_of new ≡ halves_of old ++ halves (point_of p) (wall_of w)
+
+-- those of all walls, wall by wall
+abbrev pub AreHalvesOf : CodePoint → List CodeWall → List HalfWall → Type 0
+AreHalvesOf p ws hs = halves_of hs ≡ flat_map (halves (point_of p)) (walls_of ws)
+
+-- the same in order
+abbrev pub AreHalfWalls : CodePoint → List CodeWall → List HalfWall → Type 0
+AreHalfWalls p ws hs = halves_of hs ≡ half_walls (walls_of ws) (point_of p)
+
 -- an exponent of numbers at most 1 in absolute value, as an axis has
 abbrev pub IsUnit : Exp → Type 0
 IsUnit m = (nat_abs m.a ≤ 1) × (nat_abs m.b ≤ 1)
 
+abbrev pub carried : ℕ → List HalfWall → Exp → Sum
+carried n hs m = carry n (halves_of hs) (monomial (z m))
+
+abbrev pub carried_mass : ℕ → List HalfWall → Exp → ℕ
+carried_mass n hs m = mass_to n (carry_majorant n (halves_of hs) (monomial (z m)))
+
 -- the mass of the majorants of both axes' images after these half-walls
 abbrev pub majorants_mass : ℕ → List Half → ℕ
 majorants_mass n hs = mass_to n (carry_majorant n hs (monomial (z axis_x))) + mass_to n (carry_majorant n hs (monomial (z axis_y)))
+
+abbrev pub counted_weight : ℕ → ℕ
+counted_weight m = min m (largest_weight + 1)

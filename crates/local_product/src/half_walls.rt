@@ -1,33 +1,33 @@
 // The half-walls at a point, in order by angle.
 
-ghost use Rattle.std.specs.Prelude.{◌≡◌, ◌++◌, ℕ, IfOk, OnOk, IsTrue, flat_map};
+ghost use Rattle.std.specs.Prelude.{◌≡◌, ℕ, IfOk, OnOk, IsTrue};
 ghost use Rattle.scattering.specs.Collections.{Every, in_order};
 ghost use Rattle.scattering.specs.Wall.{is_on};
-ghost use Rattle.scattering.specs.LocalProduct.{along, halves, half_walls};
-ghost use Rattle.plane_geom.specs.Shown.{point_of, exp_of};
+ghost use Rattle.scattering.specs.LocalProduct.{along};
+ghost use Rattle.plane_geom.specs.Shown.{point_of, vector_of};
 ghost use Rattle.scatter_diagram.specs.Listed.{AreOfOrder};
 ghost use Rattle.scatter_diagram.specs.Shown.{wall_of, walls_of};
-ghost use Rattle.local_product.specs.Shown.{half_of, halves_of, half_before, HalvesHaveOrder};
+ghost use Rattle.local_product.specs.Shown.{half_of, half_before, HalvesHaveOrder, KeepsOrder, AddsHalves, AreHalvesOf, AreHalfWalls};
 
 use plane_geom::{Direction, Point, angle_cmp};
 use scatter_diagram::{Wall, opposite};
 use std::alloc::{AllocError, Global};
 use wall_auto::Side;
 
-/// A half-wall at a point: the part of a wall along its direction, which is crossed on the side of
-/// `Minus`, or the part against it, on the side of `Plus`.
+/// A half-wall at a point, and the side of its wall to which it is crossed: `Minus` for the part along the
+/// wall's direction, `Plus` for the part against it.
 #[derive(Clone, Copy)]
 pub struct HalfWall<'a> {
     pub wall: &'a Wall,
-    pub side: Side,
+    pub crossing: Side,
 }
 
 impl HalfWall<'_> {
     /// The direction along which it goes from the point.
     pub fn along(&self) -> Direction
-        ensures { exp_of result ≡ along (half_of self.now) }
+        ensures { vector_of result ≡ along (half_of self.now) }
     {
-        match self.side {
+        match self.crossing {
             Side::Minus => self.wall.dir,
             Side::Plus => opposite(&self.wall.dir),
         }
@@ -38,12 +38,12 @@ impl HalfWall<'_> {
 /// it goes.
 fn push_halves<'a>(out: &mut Vec<HalfWall<'a>>, w: &'a Wall, p: &Point) -> Result<(), AllocError>
     requires { IsTrue (is_on (wall_of w.now) (point_of p.now)) }
-    ensures halves { OnOk result (halves_of out.new.items ≡ halves_of out.old.items ++ halves (point_of p.now) (wall_of w.now)) }
-    ensures order { OnOk result (HalvesHaveOrder w.now.function.order out.old.items → HalvesHaveOrder w.now.function.order out.new.items) }
+    ensures halves { OnOk result (AddsHalves p.now w.now out.old.items out.new.items) }
+    ensures order { OnOk result (KeepsOrder w.now.function.order out.old.items out.new.items) }
 {
     let against = HalfWall {
         wall: w,
-        side: Side::Plus,
+        crossing: Side::Plus,
     };
     if w.starts_at(p) {
         out.push(against)?;
@@ -51,7 +51,7 @@ fn push_halves<'a>(out: &mut Vec<HalfWall<'a>>, w: &'a Wall, p: &Point) -> Resul
     }
     out.push(HalfWall {
         wall: w,
-        side: Side::Minus,
+        crossing: Side::Minus,
     })?;
     out.push(against)?;
     Ok(())
@@ -64,7 +64,7 @@ fn unordered<'a>(
     p: &Point,
 ) -> Result<Vec<HalfWall<'a>>, AllocError>
     requires { Every (λ w. IsTrue (is_on w (point_of p.now))) (walls_of walls.now) }
-    ensures halves { IfOk result (λ r. halves_of r.items ≡ flat_map (halves (point_of p.now)) (walls_of walls.now)) }
+    ensures halves { IfOk result (λ r. AreHalvesOf p.now walls.now r.items) }
     ensures order { IfOk result (λ r. (n : ℕ) → AreOfOrder n walls.now → HalvesHaveOrder n r.items) }
 {
     let mut out = Vec::new(alloc);
@@ -90,7 +90,7 @@ pub fn half_walls<'a>(
     p: &Point,
 ) -> Result<Vec<HalfWall<'a>>, AllocError>
     requires { Every (λ w. IsTrue (is_on w (point_of p.now))) (walls_of walls.now) }
-    ensures halves { IfOk result (λ r. halves_of r.items ≡ half_walls (walls_of walls.now) (point_of p.now)) }
+    ensures halves { IfOk result (λ r. AreHalfWalls p.now walls.now r.items) }
     ensures order { IfOk result (λ r. (n : ℕ) → AreOfOrder n walls.now → HalvesHaveOrder n r.items) }
 {
     let mut halves = unordered(alloc, walls, p)?;

@@ -7,12 +7,7 @@ mod half_walls;
 mod local_walls;
 mod obstruction;
 mod one_variable;
-#[cfg(test)]
-mod plain;
 mod product;
 
 pub use obstruction::obstruction_at;
 pub use product::{images_at, weight_at};
-
-#[cfg(test)]
-mod tests;

@@ -1,13 +1,13 @@
 // The walls through a point, with their functions to an order.
 
-ghost use Rattle.std.specs.Prelude.{◌≡◌, ◌≤◌, ◌++◌, IfOk, OnOk};
+ghost use Rattle.std.specs.Prelude.{◌≡◌, ◌≤◌, IfOk, OnOk};
+ghost use Rattle.limits.specs.Limits.{highest_order};
 ghost use Rattle.scattering.specs.Collections.{Every};
-ghost use Rattle.scattering.specs.Wall.{IsWall, walls, cut_wall, cut_walls};
-ghost use Rattle.scattering.specs.ActivePoint.{walls_on};
-ghost use Rattle.plane_geom.specs.Shown.{point_of};
+ghost use Rattle.scattering.specs.Wall.{IsWall, walls, cut_wall};
 ghost use Rattle.scatter_diagram.specs.Listed.{AreOfOrder};
 ghost use Rattle.scatter_diagram.specs.Proper.{IsTame};
 ghost use Rattle.scatter_diagram.specs.Shown.{wall_of, walls_of};
+ghost use Rattle.local_product.specs.Local.{local_part, AddsLocal};
 
 use plane_geom::Point;
 use scatter_diagram::{Diagram, Wall};
@@ -16,7 +16,7 @@ use trunc_series::Series;
 
 /// The wall with its function read at a higher order.
 fn raised(alloc: Global, w: &Wall, order: u32) -> Result<Wall, AllocError>
-    requires order { order ≤ 24 }
+    requires order { order ≤ highest_order }
     requires higher { w.now.function.order ≤ order }
     ensures wall { IfOk result (λ r. wall_of r ≡ cut_wall order (wall_of w.now)) }
     ensures order { IfOk result (λ r. r.function.order ≡ order) }
@@ -31,7 +31,7 @@ fn raised(alloc: Global, w: &Wall, order: u32) -> Result<Wall, AllocError>
 
 /// The wall with its function to this order, whatever its own order is.
 fn read_at(alloc: Global, w: &Wall, order: u32) -> Result<Wall, AllocError>
-    requires { order ≤ 24 }
+    requires { order ≤ highest_order }
     ensures wall { IfOk result (λ r. wall_of r ≡ cut_wall order (wall_of w.now)) }
     ensures order { IfOk result (λ r. r.function.order ≡ order) }
 {
@@ -50,8 +50,8 @@ fn push_local(
     p: &Point,
     order: u32,
 ) -> Result<(), AllocError>
-    requires { order ≤ 24 }
-    ensures walls { OnOk result (walls_of out.new.items ≡ walls_of out.old.items ++ cut_walls order (walls_on (walls_of walls.now) (point_of p.now))) }
+    requires { order ≤ highest_order }
+    ensures walls { OnOk result (AddsLocal order p.now walls.now out.old.items out.new.items) }
     ensures order { OnOk result (AreOfOrder order out.old.items → AreOfOrder order out.new.items) }
 {
     for w in walls {
@@ -69,8 +69,9 @@ pub fn local_walls(
     p: &Point,
     order: u32,
 ) -> Result<Vec<Wall>, AllocError>
-    requires { order ≤ 24 }
-    ensures walls { IfOk result (λ r. walls_of r.items ≡ cut_walls order (walls_on (walls e.now.diagram) (point_of p.now))) }
+    requires { order ≤ highest_order }
+    ensures walls { IfOk result
+        (λ r. walls_of r.items ≡ local_part order (walls e.now.diagram) p.now) }
     ensures order { IfOk result (λ r. AreOfOrder order r.items) }
     ensures proper { OnOk result (Every (IsWall e.now.order) (walls e.now.diagram)) }
     ensures tame { OnOk result (Every (λ w. Every IsTame w.function) (walls e.now.diagram)) }

@@ -1,14 +1,8 @@
 // The correction at a point.
 
-ghost use Rattle.std.specs.Prelude.{◌≡◌, ◌<◌, ◌≤◌, ◌+◌, ◌^◌, ℕ, IfOk, IfErr, OnOk, IfSome, MatchOption, IsTrue};
-ghost use Rattle.scattering.specs.Collections.{Every};
-ghost use Rattle.scattering.specs.Series.{mass_to};
-ghost use Rattle.scattering.specs.Wall.{walls, starts_at};
-ghost use Rattle.scattering.specs.LocalProduct.{weight, IsConsistentAt};
-ghost use Rattle.scattering.specs.Stops.{WeightTooLarge};
-ghost use Rattle.plane_geom.specs.Shown.{point_of};
-ghost use Rattle.scatter_diagram.specs.Stopped.{IfStop};
-ghost use Rattle.local_product.specs.Obstruction.{IsObstruction};
+ghost use Rattle.std.specs.Prelude.{◌≤◌, IfOk, IfErr, OnOk, IfSome, MatchOption};
+ghost use Rattle.limits.specs.Limits.{highest_order};
+ghost use Rattle.local_product.specs.Obstruction.{IsObstructionAt, IsHeavyAt, IsLightAt, IsConsistentBefore, HasLightRays, IsStoppedByWeight};
 
 use crate::product::light_images;
 use plane_geom::Point;
@@ -23,12 +17,13 @@ fn correction(
     p: &Point,
     order: u32,
 ) -> Result<Option<LieElement>, AllocError>
-    requires order { order ≤ 24 }
+    requires order { order ≤ highest_order }
     requires some { 1 ≤ order }
-    requires consistent { (n : ℕ) → n + 1 ≡ order → IsConsistentAt (walls e.now.diagram) n (point_of p.now) }
-    ensures weight { IfOk result (λ o. MatchOption o (2 ^ 126 < weight (walls e.now.diagram) (point_of p.now) order) (λ h. weight (walls e.now.diagram) (point_of p.now) order ≤ 2 ^ 126)) }
-    ensures correction { IfOk result (λ o. IfSome o (λ h. IsObstruction (walls e.now.diagram) (point_of p.now) order h)) }
-    ensures rays { IfOk result (λ o. IfSome o (λ h. Every (λ r. IsTrue (starts_at r (point_of p.now)) → mass_to order r.function ≤ 2 ^ 126) e.now.diagram.rays)) }
+    requires consistent { IsConsistentBefore e.now p.now order }
+    ensures weight { IfOk result
+        (λ o. MatchOption o (IsHeavyAt e.now p.now order) (λ h. IsLightAt e.now p.now order)) }
+    ensures correction { IfOk result (λ o. IfSome o (IsObstructionAt e.now p.now order)) }
+    ensures rays { IfOk result (λ o. IfSome o (λ h. HasLightRays e.now p.now order)) }
 {
     match light_images(alloc, e, p, order)? {
         None => Ok(None),
@@ -44,13 +39,13 @@ fn correction(
 ///
 /// The point stops the order exactly where its weight is above 2^126.
 pub fn obstruction_at(alloc: Global, e: &Diagram, p: &Point, order: u32) -> Result<LieElement, Stop>
-    requires order { order ≤ 24 }
+    requires order { order ≤ highest_order }
     requires some { 1 ≤ order }
-    requires consistent { (n : ℕ) → n + 1 ≡ order → IsConsistentAt (walls e.now.diagram) n (point_of p.now) }
-    ensures correction { IfOk result (λ h. IsObstruction (walls e.now.diagram) (point_of p.now) order h) }
-    ensures rays { OnOk result (Every (λ r. IsTrue (starts_at r (point_of p.now)) → mass_to order r.function ≤ 2 ^ 126) e.now.diagram.rays) }
-    ensures light { OnOk result (weight (walls e.now.diagram) (point_of p.now) order ≤ 2 ^ 126) }
-    ensures stop { IfErr result (λ s. IfStop s (λ n c. (n ≡ order) × (c ≡ WeightTooLarge) × (2 ^ 126 < weight (walls e.now.diagram) (point_of p.now) order))) }
+    requires consistent { IsConsistentBefore e.now p.now order }
+    ensures correction { IfOk result (IsObstructionAt e.now p.now order) }
+    ensures rays { OnOk result (HasLightRays e.now p.now order) }
+    ensures light { OnOk result (IsLightAt e.now p.now order) }
+    ensures stop { IfErr result (IsStoppedByWeight e.now p.now order) }
 {
     match correction(alloc, e, p, order) {
         Err(_) => Err(Stop::Memory),

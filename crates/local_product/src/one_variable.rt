@@ -2,10 +2,11 @@
 // they are in, and in one they have far fewer terms.
 
 ghost use Rattle.std.specs.Prelude.{◌≡◌, ◌<◌, ◌≤◌, ◌^◌, nat_abs, pos, IfOk};
+ghost use Rattle.limits.specs.Limits.{highest_order};
 ghost use Rattle.scattering.specs.Collections.{Every};
 ghost use Rattle.scattering.specs.Series.{absolute, degree};
-ghost use Rattle.trunc_series.specs.Shown.{key_of, sum_of, IsSeriesOf};
-ghost use Rattle.local_product.specs.OneVariable.{one_variable, in_one_variable};
+ghost use Rattle.trunc_series.specs.Shown.{key_of, sum_of};
+ghost use Rattle.local_product.specs.OneVariable.{one_variable, in_one_variable, IsInOneVariable};
 
 use scatter_diagram::Wall;
 use std::alloc::{AllocError, Global};
@@ -14,7 +15,7 @@ use trunc_series::{Key, Series};
 
 /// The key with its degree as a power of t1.
 fn one_variable(k: &Key) -> Key
-    requires { degree (key_of k.now) ≤ 24 }
+    requires { degree (key_of k.now) ≤ highest_order }
     ensures { key_of result ≡ one_variable (key_of k.now) }
 {
     Key {
@@ -36,7 +37,7 @@ fn terms_in_one_variable(
     alloc: Global,
     terms: &[(Key, i128)],
 ) -> Result<Vec<(Key, i128)>, AllocError>
-    requires low { Every (λ t. degree t.0 ≤ 24) (sum_of terms.now) }
+    requires low { Every (λ t. degree t.0 ≤ highest_order) (sum_of terms.now) }
     requires small { Every (λ t. nat_abs t.1 < 2 ^ 127) (sum_of terms.now) }
     ensures { IfOk result (λ r. sum_of r.items ≡ in_one_variable (absolute (sum_of terms.now))) }
 {
@@ -49,7 +50,7 @@ fn terms_in_one_variable(
 
 /// |f| in one variable, where f is the wall's function.
 pub fn function_in_one_variable(alloc: Global, w: &Wall) -> Result<Series, AllocError>
-    ensures { IfOk result (λ s. IsSeriesOf s w.now.function.order (in_one_variable (absolute w.now.function.terms))) }
+    ensures { IfOk result (IsInOneVariable w.now.function) }
 {
     let order = w.function.order();
     let terms = terms_in_one_variable(alloc, w.function.terms())?;

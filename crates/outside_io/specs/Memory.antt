@@ -1,6 +1,7 @@
 -- Sources and sinks in memory: what they show, and which of their calls fail.
-use Rattle.std.specs.Prelude.{ℕ, ◌+◌, ◌-◌, ◌^◌, ◌==◌, ◌||◌, nat_lt, Bool, min, List, length}
+use Rattle.std.specs.Prelude.{ℕ, ◌+◌, ◌-◌, ◌^◌, ◌==◌, ◌||◌, nat_lt, Bool, min, List, length, Some}
 use Rattle.std.specs.List.{list_any}
+use Rattle.outside_io.specs.Outside.{GivesWhereTold, TakesWhereTold}
 
 -- one more, up to the end of a u64
 abbrev pub counted : ℕ → ℕ
@@ -12,6 +13,10 @@ pub record SourceInMemory : Type 0 where
   pub calls : ℕ
   pub fails : List ℕ
   pub faults : ℕ
+
+-- what a read of the first source gave, which left the second
+abbrev pub GivesOf : SourceInMemory → SourceInMemory → List ℕ → ℕ → Type 0
+GivesOf before after into n = GivesWhereTold (Some before.left) (Some after.left) into n
 
 -- the next read's number is among those that fail
 abbrev pub read_fails : SourceInMemory → Bool
@@ -32,6 +37,10 @@ pub record SinkInMemory : Type 0 where
   pub calls : ℕ
   pub fails : List ℕ
   pub faults : ℕ
+
+-- what a write to the first sink took, which left the second
+abbrev pub TakesOf : SinkInMemory → SinkInMemory → List ℕ → ℕ → Type 0
+TakesOf before after piece n = TakesWhereTold (Some before.held) (Some after.held) piece n
 
 -- the sink after a failed write
 abbrev pub sink_failed : SinkInMemory → SinkInMemory

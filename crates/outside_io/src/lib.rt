@@ -3,8 +3,9 @@
 //! where it tells them; a failure comes only where the count of faults rose in that call.
 #![tactic(auto)]
 
-ghost use Rattle.std.specs.Prelude.{◌≡◌, ◌<◌, ◌≤◌, ℕ, List, Option, length, IfOk, OnErr};
-ghost use Rattle.outside_io.specs.Outside.{HasCause, GivesWhereTold, TakesWhereTold};
+ghost use Rattle.std.specs.Prelude.{◌≡◌, ◌<◌, ◌≤◌, ℕ, List, Option, length, IfOk, IsErr, OnErr};
+ghost use Rattle.outside_io.specs.Memory.{counted};
+ghost use Rattle.outside_io.specs.Outside.{HasCause, GivesWhereTold, TakesWhereTold, KeepsWhereTold};
 
 mod memory;
 mod standard;
@@ -18,6 +19,16 @@ pub use sure::{SureSink, SureSource};
 #[derive(Clone, Copy, Debug, PartialEq, Eq)]
 pub struct Failed;
 
+/// Counts a fault, up to the end of the count, and answers it.
+fn fail(faults: &mut u64) -> Result<usize, Failed>
+    ensures answer { IsErr result }
+    ensures counted { faults.new ≡ counted faults.old }
+    ensures cause { HasCause faults.old faults.new result }
+{
+    *faults = faults.saturating_add(1);
+    Err(Failed)
+}
+
 /// Bytes to be read.
 pub trait Source {
     /// The bytes still to be read, where the source tells them.
@@ -30,11 +41,13 @@ pub trait Source {
     /// where the source tells it.
     ///
     /// # Errors
-    /// `Failed`, where the count of faults rose in this call or stands at its end.
+    /// `Failed`, where the count of faults rose in this call or stands at its end; then nothing was
+    /// taken from what is left where the source tells it.
     fn read(&mut self, into: &mut [u8]) -> Result<usize, Failed>
         requires { 0 < length into.old }
         ensures within { IfOk result (λ n. n ≤ length into.new) }
         ensures bytes { IfOk result (λ n. GivesWhereTold (left self.old) (left self.new) into.new n) }
+        ensures unchanged { OnErr result (KeepsWhereTold (left self.old) (left self.new)) }
         ensures cause { HasCause (faults self.old) (faults self.new) result };
 }
 
@@ -56,7 +69,7 @@ pub trait Sink {
         ensures within { IfOk result (λ n. n ≤ length piece.now) }
         ensures some { IfOk result (λ n. 0 < n) }
         ensures bytes { IfOk result (λ n. TakesWhereTold (held self.old) (held self.new) piece.now n) }
-        ensures unchanged { OnErr result (held self.new ≡ held self.old) }
+        ensures unchanged { OnErr result (KeepsWhereTold (held self.old) (held self.new)) }
         ensures cause { HasCause (faults self.old) (faults self.new) result };
 }
 
@@ -79,6 +92,3 @@ impl Gate for OpenGate {
 
     fn at_answer(&self, _reader: u32, _query: u32) {}
 }
-
-#[cfg(test)]
-mod tests;

@@ -1,10 +1,10 @@
 // A source and a sink in memory, of which chosen calls fail.
 
 ghost use Rattle.std.specs.Prelude.{◌≡◌, ◌≤◌, ◌+◌, ◌↔◌, ◌++◌, ◌<◌, [], length, take, drop, min, Some, IfOk, OnErr, OnOk, IsErr, IsTrue};
-ghost use Rattle.outside_io.specs.Outside.{HasCause, GivesWhereTold, TakesWhereTold};
-ghost use Rattle.outside_io.specs.Memory.{read_fails, source_failed, source_read, sink_failed, sink_wrote, write_fails};
+ghost use Rattle.outside_io.specs.Outside.{HasCause};
+ghost use Rattle.outside_io.specs.Memory.{GivesOf, TakesOf, read_fails, source_failed, source_read, sink_failed, sink_wrote, write_fails};
 
-use crate::{Failed, Sink, Source};
+use crate::{Failed, Sink, Source, SureSource, fail};
 use std::alloc::{AllocError, Global};
 use std::marker::Model;
 
@@ -12,27 +12,23 @@ use std::marker::Model;
 /// fail, counted from 1 (a count that ends at 2^64 - 1).
 #[derive(Drop)]
 pub struct MemSource {
-    bytes: Vec<u8>,
-    at: usize,
+    rest: SureSource,
     calls: u64,
     fails: Vec<u64>,
     failed: u64,
 }
 
 impl Model for MemSource {
-    ghost use Rattle.std.specs.Prelude.{◌≤◌, length, drop};
     ghost use Rattle.outside_io.specs.Memory.{SourceInMemory};
 
     ghost Value = { SourceInMemory };
 
     ghost view = { λ s. record {
-      left = drop s.at s.bytes.items;
+      left = s.rest;
       calls = s.calls;
       fails = s.fails.items;
       faults = s.failed;
     } };
-
-    ghost invariant = { λ s. s.at ≤ length s.bytes.items };
 }
 
 impl MemSource {
@@ -44,8 +40,7 @@ impl MemSource {
         ensures faults { result.faults ≡ 0 }
     {
         MemSource {
-            bytes,
-            at: 0,
+            rest: SureSource::new(bytes),
             calls: 0,
             fails,
             failed: 0,
@@ -61,7 +56,8 @@ impl Source for MemSource {
     fn read(&mut self, into: &mut [u8]) -> Result<usize, Failed>
         requires { 0 < length into.old }
         ensures within { IfOk result (λ n. n ≤ length into.new) }
-        ensures bytes { IfOk result (λ n. GivesWhereTold (Some self.old.left) (Some self.new.left) into.new n) }
+        ensures bytes { IfOk result (λ n. GivesOf self.old self.new into.new n) }
+        ensures unchanged { OnErr result (Some self.new.left ≡ Some self.old.left) }
         ensures cause { HasCause self.old.faults self.new.faults result }
         ensures fails { IsErr result ↔ IsTrue (read_fails self.old) }
         ensures most { IfOk result (λ n. n ≡ min (length self.old.left) (length into.old)) }
@@ -70,14 +66,9 @@ impl Source for MemSource {
     {
         self.calls = self.calls.saturating_add(1);
         if self.fails.contains(&self.calls) {
-            self.failed = self.failed.saturating_add(1);
-            return Err(Failed);
+            return fail(&mut self.failed);
         }
-        let rest = &self.bytes.as_slice()[self.at..];
-        let n = rest.len().min(into.len());
-        into[..n].copy_from_slice(&rest[..n]);
-        self.at += n;
-        Ok(n)
+        self.rest.read(into)
     }
 }
 
@@ -147,7 +138,7 @@ impl Sink for MemSink {
         requires { 0 < length piece.now }
         ensures within { IfOk result (λ n. n ≤ length piece.now) }
         ensures some { IfOk result (λ n. 0 < n) }
-        ensures bytes { IfOk result (λ n. TakesWhereTold (Some self.old.held) (Some self.new.held) piece.now n) }
+        ensures bytes { IfOk result (λ n. TakesOf self.old self.new piece.now n) }
         ensures unchanged { OnErr result (Some self.new.held ≡ Some self.old.held) }
         ensures cause { HasCause self.old.faults self.new.faults result }
         ensures fails { IsErr result ↔ IsTrue (write_fails self.old piece.now) }
@@ -158,8 +149,7 @@ impl Sink for MemSink {
         self.calls = self.calls.saturating_add(1);
         let fits = piece.len() <= self.room - self.bytes.len();
         if !fits || self.fails.contains(&self.calls) {
-            self.failed = self.failed.saturating_add(1);
-            return Err(Failed);
+            return fail(&mut self.failed);
         }
         match self.bytes.extend_from_slice(piece) {
             Ok(()) => Ok(piece.len()),

@@ -1,9 +1,9 @@
-// The real outside: a source over std's reader and a sink over std's writer, which tell nothing of
-// their content. What they do beyond their traits' contracts is trusted.
+// The real outside: a source over std's reader and a sink over std's writer. They tell of their bytes
+// what the reader and the writer state of themselves, as bytes in memory do and standard input doesn't.
 
-ghost use Rattle.std.specs.Prelude.{◌≡◌, None};
+ghost use Rattle.std.specs.Prelude.{◌≡◌};
 
-use crate::{Failed, Sink, Source};
+use crate::{Failed, Sink, Source, fail};
 use std::io::{Read, Write};
 use std::marker::Model;
 
@@ -14,36 +14,33 @@ pub struct StdSource<R: Read> {
     failed: u64,
 }
 
-// Contracts see it as its count of faults.
 impl<R: Read> Model for StdSource<R> {
-    ghost use Rattle.std.specs.Prelude.{ℕ};
+    ghost use Rattle.outside_io.specs.Outside.{Reading};
 
-    ghost Value = { ℕ };
+    ghost Value = { Reading };
 
-    ghost view = { λ s. s.failed };
+    ghost view = { λ s. record { left = R.remaining s.reader; faults = s.failed } };
 }
 
 impl<R: Read> StdSource<R> {
     /// No fault was counted yet.
     pub fn new(reader: R) -> StdSource<R>
-        ensures { result ≡ 0 }
+        ensures left { result.left ≡ R.remaining reader }
+        ensures faults { result.faults ≡ 0 }
     {
         StdSource { reader, failed: 0 }
     }
 }
 
 impl<R: Read> Source for StdSource<R> {
-    ghost left = { λ s. None };
+    ghost left = { λ s. s.left };
 
-    ghost faults = { λ s. s };
+    ghost faults = { λ s. s.faults };
 
     fn read(&mut self, into: &mut [u8]) -> Result<usize, Failed> {
         match self.reader.read(into) {
             Ok(n) => Ok(n),
-            Err(_) => {
-                self.failed = self.failed.saturating_add(1);
-                Err(Failed)
-            }
+            Err(_) => fail(&mut self.failed),
         }
     }
 }
@@ -55,36 +52,33 @@ pub struct StdSink<W: Write> {
     failed: u64,
 }
 
-// Contracts see it as its count of faults.
 impl<W: Write> Model for StdSink<W> {
-    ghost use Rattle.std.specs.Prelude.{ℕ};
+    ghost use Rattle.outside_io.specs.Outside.{Writing};
 
-    ghost Value = { ℕ };
+    ghost Value = { Writing };
 
-    ghost view = { λ s. s.failed };
+    ghost view = { λ s. record { held = W.contents s.writer; faults = s.failed } };
 }
 
 impl<W: Write> StdSink<W> {
     /// No fault was counted yet.
     pub fn new(writer: W) -> StdSink<W>
-        ensures { result ≡ 0 }
+        ensures held { result.held ≡ W.contents writer }
+        ensures faults { result.faults ≡ 0 }
     {
         StdSink { writer, failed: 0 }
     }
 }
 
 impl<W: Write> Sink for StdSink<W> {
-    ghost held = { λ s. None };
+    ghost held = { λ s. s.held };
 
-    ghost faults = { λ s. s };
+    ghost faults = { λ s. s.faults };
 
     fn write(&mut self, piece: &[u8]) -> Result<usize, Failed> {
         match self.writer.write(piece) {
             Ok(n) if n > 0 => Ok(n),
-            _ => {
-                self.failed = self.failed.saturating_add(1);
-                Err(Failed)
-            }
+            _ => fail(&mut self.failed),
         }
     }
 }

@@ -1,6 +1,6 @@
 // A source and a sink that never fail, so that their counts of faults are always 0.
 
-ghost use Rattle.std.specs.Prelude.{◌≡◌, ◌≤◌, ◌<◌, length, drop, min, Some, None, Ok, IfOk};
+ghost use Rattle.std.specs.Prelude.{◌≡◌, ◌≤◌, ◌<◌, length, drop, min, Some, None, Ok, IfOk, OnErr};
 ghost use Rattle.outside_io.specs.Outside.{HasCause, GivesWhereTold};
 
 use crate::{Failed, Sink, Source};
@@ -41,8 +41,10 @@ impl Source for SureSource {
         requires { 0 < length into.old }
         ensures within { IfOk result (λ n. n ≤ length into.new) }
         ensures bytes { IfOk result (λ n. GivesWhereTold (Some self.old) (Some self.new) into.new n) }
+        ensures unchanged { OnErr result (Some self.new ≡ Some self.old) }
         ensures cause { HasCause 0 0 result }
         ensures most { result ≡ Ok (min (length self.old) (length into.old)) }
+        ensures rest { IfOk result (λ n. self.new ≡ drop n self.old) }
     {
         let rest = &self.bytes.as_slice()[self.at..];
         let n = rest.len().min(into.len());
@@ -57,7 +59,10 @@ impl Source for SureSource {
 pub struct SureSink;
 
 impl SureSink {
-    pub fn new() -> SureSink {
+    /// There is one, and its count of faults is 0.
+    pub fn new() -> SureSink
+        ensures { result ≡ record {} }
+    {
         SureSink
     }
 }

@@ -5,6 +5,7 @@ use Rattle.std.proofs.Common.{true, false, zero, suc, ◌<◌}
 use lib.Signed.{mag, le_z}
 use mir.Syntax.{w32, w64, w128}
 use Rattle.std.proofs.lemmas.Int.{ints}
+use Rattle.sum_algebra.proofs.Integers.{plus-same}
 
 pub minus-is : (x y : ℤ) → nat_abs x ≤ 2 ^ 100 → nat_abs y ≤ 2 ^ 100 → to_z w128 (of_z w128 (to_z w128 (of_z w128 x) -ℤ to_z w128 (of_z w128 y))) ≡ x -ℤ y
 minus-is x y h k = omega (arith, ints, h, k)
@@ -49,12 +50,6 @@ minor-read r a b c d h k l m e =
 pub scaled-read : (r a y : ℤ) → nat_abs a ≤ 2 ^ 12 → nat_abs y ≤ 2 ^ 81 → r ≡ to_z w32 (of_z w32 a) *ℤ to_z w128 (of_z w128 y) → r ≡ a *ℤ y
 scaled-read r a y h k e = e ∙ ap (λ z. z *ℤ to_z w128 (of_z w128 y)) (back32 a h) ∙ ap (λ z. a *ℤ z) (back128 y k)
 
-pub minus-same : (x y a b : ℤ) → x ≡ a → y ≡ b → x -ℤ y ≡ a -ℤ b
-minus-same x y a b h k = ap (λ z. z -ℤ y) h ∙ ap (λ z. a -ℤ z) k
-
-pub plus-same : (x y a b : ℤ) → x ≡ a → y ≡ b → x +ℤ y ≡ a +ℤ b
-plus-same x y a b h k = ap (λ z. z +ℤ y) h ∙ ap (λ z. a +ℤ z) k
-
 pub times-same : (a x y : ℤ) → x ≡ y → a *ℤ x ≡ a *ℤ y
 times-same a x y h = ap (λ z. a *ℤ z) h
 
@@ -89,8 +84,8 @@ minus-bound94 x y h k = omega (arith, ints, h, k)
 pub plus-is110 : (x y : ℤ) → nat_abs x ≤ 2 ^ 110 → nat_abs y ≤ 2 ^ 110 → to_z w128 (of_z w128 (to_z w128 (of_z w128 x) +ℤ to_z w128 (of_z w128 y))) ≡ x +ℤ y
 plus-is110 x y h k = omega (arith, ints, h, k)
 
-back128' : (z : ℤ) → nat_abs z ≤ 2 ^ 94 → to_z w128 (of_z w128 z) ≡ z
-back128' z h = omega (arith, ints, h)
+pub back94 : (x : ℤ) → nat_abs x ≤ 2 ^ 94 → to_z w128 (of_z w128 x) ≡ x
+back94 x h = omega (arith, ints, h)
 
 pub grown-read : (r a t : ℤ) → nat_abs a ≤ 2 ^ 80 → nat_abs t ≤ 2 ^ 25 → r ≡ to_z w128 (of_z w128 a) *ℤ to_z w64 (of_z w64 t) → r ≡ a *ℤ t
 grown-read r a t h k e = e ∙ ap (λ z. z *ℤ to_z w64 (of_z w64 t)) (back128 a (more a h)) ∙ ap (λ z. a *ℤ z) (back64 t (more' t k))
@@ -102,7 +97,7 @@ grown-read r a t h k e = e ∙ ap (λ z. z *ℤ to_z w64 (of_z w64 t)) (back128 
     more' a h = omega (arith, h)
 
 pub moved-read : (r n d : ℤ) → nat_abs n ≤ 2 ^ 94 → nat_abs d ≤ 2 ^ 12 → r ≡ to_z w128 (of_z w128 n) *ℤ to_z w32 (of_z w32 d) → r ≡ n *ℤ d
-moved-read r n d h k e = e ∙ ap (λ z. z *ℤ to_z w32 (of_z w32 d)) (back128' n h) ∙ ap (λ z. n *ℤ z) (back32 d k)
+moved-read r n d h k e = e ∙ ap (λ z. z *ℤ to_z w32 (of_z w32 d)) (back94 n h) ∙ ap (λ z. n *ℤ z) (back32 d k)
 
 pub larger105 : (x : ℤ) → nat_abs x ≤ 2 ^ 105 → nat_abs x ≤ 2 ^ 110
 larger105 x h = omega (arith, h)
@@ -137,9 +132,6 @@ product-seen r a b h k e l = back107 r (omega (arith, l)) ∙ product-read r a b
 pub bits-zero64 : (x : ℤ) → x ≡ pos 0 → of_z w64 x ≡ 0
 bits-zero64 x e = rw e
 
-pub back94 : (x : ℤ) → nat_abs x ≤ 2 ^ 94 → to_z w128 (of_z w128 x) ≡ x
-back94 x h = omega (arith, ints, h)
-
 pub back25 : (x : ℤ) → nat_abs x ≤ 2 ^ 25 → to_z w64 (of_z w64 x) ≡ x
 back25 x h = omega (arith, ints, h)
 
@@ -154,3 +146,12 @@ shifted-seen x a b t n d m h k l i j e f g =
 
 pub neg25 : (x : ℤ) → nat_abs x ≤ 2 ^ 25 → to_z w64 (of_z w64 (pos 0 -ℤ to_z w64 (of_z w64 x))) ≡ neg_ℤ x
 neg25 x h = omega (arith, ints, h)
+
+pub plus-fits : (x y : ℤ) → nat_abs x ≤ 2 ^ 100 → nat_abs y ≤ 2 ^ 100 → FitsSigned w128 (to_z w128 (of_z w128 x) +ℤ to_z w128 (of_z w128 y))
+plus-fits x y h k = omega (arith, ints, h, k)
+
+pub plus-fits110 : (x y : ℤ) → nat_abs x ≤ 2 ^ 110 → nat_abs y ≤ 2 ^ 110 → FitsSigned w128 (to_z w128 (of_z w128 x) +ℤ to_z w128 (of_z w128 y))
+plus-fits110 x y h k = omega (arith, ints, h, k)
+
+pub minus-fits64 : (x y : ℤ) → nat_abs x ≤ 2 ^ 24 → nat_abs y ≤ 2 ^ 24 → FitsSigned w64 (to_z w64 (of_z w64 x) -ℤ to_z w64 (of_z w64 y))
+minus-fits64 x y h k = omega (arith, ints, h, k)

@@ -13,7 +13,7 @@ use Rattle.plane_theory.proofs.WholeNumbers.{sign}
 use Rattle.plane_geom.specs.declared.Point.{Point as CodePoint}
 use Rattle.plane_geom.specs.declared.Support.{Support}
 use Rattle.plane_geom.specs.declared.Support.TheVariants.{Line, Half}
-use Rattle.plane_geom.specs.Shown.{point_of, exp_of, support_at, support_dir, OnSupport, HoldsAt, IsQuotient, IsCommon}
+use Rattle.plane_geom.specs.Shown.{point_of, vector_of, support_at, support_dir, OnSupport, HoldsAt, IsQuotient, IsCommon}
 use Rattle.plane_geom.proofs.Quotients.{quotient-turned, not-zero}
 
 pub weight : (s : Support) → pos 1 ≤ℤ (support_at s).w
@@ -21,25 +21,25 @@ weight (Line p d) = p.reduced.below
 weight (Half p d) = p.reduced.below
 
 pub moves : (s : Support) → support_dir s ≢ origin
-moves (Line p d) = direction-not_origin (exp_of d) d.primitive
-moves (Half p d) = direction-not_origin (exp_of d) d.primitive
+moves (Line p d) = direction-not_origin (vector_of d) d.primitive
+moves (Half p d) = direction-not_origin (vector_of d) d.primitive
 
 -- a point of a support is on its line
 pub flat : (s : Support) (q : Point) → pos 1 ≤ℤ q.w → OnSupport s q → det (support_dir s) (difference (support_at s) q) ≡ pos 0
-flat (Line p d) q v h = (line-test (point_of p) (exp_of d) q p.reduced.below v (direction-not_origin (exp_of d) d.primitive)).1 h
-flat (Half p d) q v h = (from-test (point_of p) (exp_of d) q p.reduced.below v h).0
+flat (Line p d) q v h = (line-test (point_of p) (vector_of d) q p.reduced.below v (direction-not_origin (vector_of d) d.primitive)).1 h
+flat (Half p d) q v h = (from-test (point_of p) (vector_of d) q p.reduced.below v h).0
 
 -- the common point of a support's line and another is on the support where the support holds that place
 module _ (r : Point) (e : Exp) (q : Point) (rw' : pos 1 ≤ℤ r.w) (qw : pos 1 ≤ℤ q.w) where
   pub on-place : (s : Support) → det (support_dir s) e ≢ pos 0 → IsCrossing (support_at s) (support_dir s) r e q → OnSupport s q → HoldsAt s (numer (support_at s) r e) (det (support_dir s) e)
   on-place (Line p d) n h o = tt
-  on-place (Half p d) n h o = (meeting-ahead (point_of p) (exp_of d) r e q p.reduced.below rw' qw (direction-not_origin (exp_of d) d.primitive) n h).0 o
+  on-place (Half p d) n h o = (meeting-ahead (point_of p) (vector_of d) r e q p.reduced.below rw' qw (direction-not_origin (vector_of d) d.primitive) n h).0 o
 
   pub place-on : (s : Support) → det (support_dir s) e ≢ pos 0 → IsCrossing (support_at s) (support_dir s) r e q → HoldsAt s (numer (support_at s) r e) (det (support_dir s) e) → OnSupport s q
-  place-on (Line p d) n h k = (line-test (point_of p) (exp_of d) q p.reduced.below qw (direction-not_origin (exp_of d) d.primitive)).0 (meeting-first (point_of p) (exp_of d) r e q rw' n h)
-  place-on (Half p d) n h k = (meeting-ahead (point_of p) (exp_of d) r e q p.reduced.below rw' qw (direction-not_origin (exp_of d) d.primitive) n h).1 k
+  place-on (Line p d) n h k = (line-test (point_of p) (vector_of d) q p.reduced.below qw (direction-not_origin (vector_of d) d.primitive)).0 (meeting-first (point_of p) (vector_of d) r e q rw' n h)
+  place-on (Half p d) n h k = (meeting-ahead (point_of p) (vector_of d) r e q p.reduced.below rw' qw (direction-not_origin (vector_of d) d.primitive) n h).1 k
 
-det-back : (d e : Exp) → det e d ≡ neg_ℤ (det d e)
+pub det-back : (d e : Exp) → det e d ≡ neg_ℤ (det d e)
 det-back d e = rw (dif-up d.a, dif-up d.b, dif-up e.a, dif-up e.b) (simp (dif-mul, dif-add, dif-neg) (dif-same _ _ _ _ (omega arith)))
 
 module _ (s t : Support) (n : det (support_dir s) (support_dir t) ≢ pos 0) where

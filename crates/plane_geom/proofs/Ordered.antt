@@ -14,7 +14,7 @@ use Rattle.plane_geom.specs.declared.Direction.{Direction}
 use Rattle.plane_theory.proofs.Angles.{turns-trans, turns-out, turned-irrefl}
 use Rattle.plane_theory.proofs.AngleTies.{ties-are-multiples, multiples-equal}
 use Rattle.plane_theory.proofs.Directions.{direction-not_origin}
-use Rattle.plane_geom.specs.Shown.{exp_of, point_of, angle_order, position_order}
+use Rattle.plane_geom.specs.Shown.{vector_of, point_of, angle_order, position_order}
 
 -- ---- two numbers, then two more
 abbrev pub then_order : ℤ → ℤ → ℤ → ℤ → Ordering
@@ -92,10 +92,10 @@ angle-ties : (d e : Exp) → IsDirection d → IsDirection e → turns_before d 
 angle-ties d e i j p q = multiples-equal d e i j (ties-are-multiples d e (direction-not_origin d i) (direction-not_origin e j) (λ x. cc) (λ x. cc))
 
 pub angles-ordered : IsTotalOrder angle_order
-angles-ordered = seen-total IsDirection turns_before angle-irrefl angle-trans angle-ties exp_of (λ d. d.primitive)
+angles-ordered = seen-total IsDirection turns_before angle-irrefl angle-trans angle-ties vector_of (λ d. d.primitive)
 
-pub angles-equal : (d e : Direction) (r : Ordering) → r ≡ angle_order d e → (r ≡ Equal) ↔ (exp_of d ≡ exp_of e)
-angles-equal d e r h = equal-clause IsDirection turns_before angle-irrefl angle-trans angle-ties (exp_of d) (exp_of e) r d.primitive e.primitive h
+pub angles-equal : (d e : Direction) (r : Ordering) → r ≡ angle_order d e → (r ≡ Equal) ↔ (vector_of d ≡ vector_of e)
+angles-equal d e r h = equal-clause IsDirection turns_before angle-irrefl angle-trans angle-ties (vector_of d) (vector_of e) r d.primitive e.primitive h
 
 -- ---- points
 point-irrefl : (p : PlanePoint) → IsPoint p → point_before p p ≡ true → ⊥

@@ -4,9 +4,10 @@ use Rattle.std.specs.Prelude.{ℤ, pos, ◌+ℤ◌, ◌-ℤ◌, ◌*ℤ◌, neg_
 use Rattle.scattering.proofs.Ring.{dif-up, dif-pos, dif-add, dif-neg, dif-mul, dif-same}
 use Rattle.scattering.specs.Series.{Exp}
 use Rattle.scattering.specs.Plane.{Point, IsNear}
-use Rattle.plane_theory.proofs.WholeNumbers.{follows, positive, zero_of, dif-below}
+use Rattle.plane_theory.proofs.WholeNumbers.{follows, zero_of, dif-below}
 use Rattle.plane_geom.specs.declared.Point.{Point as CodePoint}
 use Rattle.plane_geom.specs.Shown.{point_of, IsQuotient, IsCommon}
+use Rattle.sum_algebra.proofs.Integers.{positive-mul}
 
 pub quotient-along : (x y w x' y' w' : ℤ) (q : Point) → x ≡ x' → y ≡ y' → w ≡ w' → IsQuotient x y w q → IsQuotient x' y' w' q
 quotient-along x y w x' y' w' q e f g h = subst (λ (z : ℤ). IsQuotient z y' w' q) e (subst (λ (z : ℤ). IsQuotient x z w' q) f (subst (λ (z : ℤ). IsQuotient x y z q) g h))
@@ -51,4 +52,4 @@ common p d r n t o h = h
 
 -- the denominator isn't 0
 pub not-zero : (a b t : ℤ) → pos 1 ≤ℤ a → pos 1 ≤ℤ b → t ≢ pos 0 → a *ℤ b *ℤ t ≢ pos 0
-not-zero a b t h k n e = n (zero_of (a *ℤ b) t (positive a b h k) e)
+not-zero a b t h k n e = n (zero_of (a *ℤ b) t (positive-mul a b h k) e)

@@ -1,5 +1,6 @@
 -- What a point's and a direction's fields have to meet.
 use Rattle.std.specs.Prelude.{ℤ, ◌≤◌, nat_abs}
+use Rattle.limits.specs.Limits.{largest_direction}
 use Rattle.scattering.specs.Series.{Exp}
 use Rattle.scattering.specs.Plane.{Point}
 
@@ -10,4 +11,4 @@ abbrev pub pair : ℤ → ℤ → Exp
 pair m n = record { a = m; b = n }
 
 abbrev pub IsSmall : ℤ → ℤ → Type 0
-IsSmall m n = (nat_abs m ≤ 4096) × (nat_abs n ≤ 4096)
+IsSmall m n = (nat_abs m ≤ largest_direction) × (nat_abs n ≤ largest_direction)

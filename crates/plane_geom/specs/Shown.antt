@@ -1,7 +1,8 @@
 -- Points, directions and supports as the definitions see them, and what their calls answer.
-use Rattle.std.specs.Prelude.{◌≡◌, ◌≢◌, ℕ, ℤ, pos, negsuc, neg_ℤ, ◌+ℤ◌, ◌*ℤ◌, ◌≤ℤ◌, int_lt, cond, ◌/◌, suc, Option, MatchOption, ⊤}
+use Rattle.std.specs.Prelude.{◌≡◌, ◌≢◌, ℕ, ℤ, pos, negsuc, neg_ℤ, ◌+ℤ◌, ◌*ℤ◌, ◌≤ℤ◌, int_lt, cond, nat_abs, ◌/◌, ◌<◌, ◌≤◌, suc, Option, MatchOption, ⊤}
 use Rattle.std.specs.declared.cmp.Ordering.{Ordering}
 use Rattle.std.specs.declared.cmp.Ordering.TheVariants.{Less, Equal, Greater}
+use Rattle.limits.specs.Limits.{largest_coordinate}
 use Rattle.scattering.specs.Series.{Exp, det}
 use Rattle.scattering.specs.Plane.{Point, IsPoint, IsNear, FromOn, IsAt, point_before, turns_before}
 use Rattle.plane_geom.specs.declared.Point.{Point as CodePoint}
@@ -14,8 +15,8 @@ use Rattle.plane_geom.specs.declared.Meeting.TheVariants.{Parallel, Outside, Too
 abbrev pub point_of : CodePoint → Point
 point_of p = record { x = p.x; y = p.y; w = p.w }
 
-abbrev pub exp_of : Direction → Exp
-exp_of d = record { a = d.a; b = d.b }
+abbrev pub vector_of : Direction → Exp
+vector_of d = record { a = d.a; b = d.b }
 
 -- ---- supports
 abbrev pub support_at : Support → Point
@@ -23,16 +24,16 @@ support_at (Line p d) = point_of p
 support_at (Half p d) = point_of p
 
 abbrev pub support_dir : Support → Exp
-support_dir (Line p d) = exp_of d
-support_dir (Half p d) = exp_of d
+support_dir (Line p d) = vector_of d
+support_dir (Half p d) = vector_of d
 
 -- q = p + s·e for a rational s
 abbrev pub OnWhole : Point → Exp → Point → Type 0
 OnWhole p e q = (m n : ℤ) × IsAt p e m n q
 
 abbrev pub OnSupport : Support → Point → Type 0
-OnSupport (Line p d) q = OnWhole (point_of p) (exp_of d) q
-OnSupport (Half p d) q = FromOn (point_of p) (exp_of d) q
+OnSupport (Line p d) q = OnWhole (point_of p) (vector_of d) q
+OnSupport (Half p d) q = FromOn (point_of p) (vector_of d) q
 
 -- ---- points
 -- p is (x/w, y/w), for w other than 0
@@ -54,6 +55,12 @@ abbrev pub over : ℕ → ℤ → ℤ
 over g (pos n) = pos (n / g)
 over g (negsuc n) = neg_ℤ (pos (suc n / g))
 
+abbrev pub IsNearOver : ℕ → ℤ → Type 0
+IsNearOver g x = nat_abs x / g ≤ largest_coordinate
+
+abbrev pub IsFarOver : ℕ → ℤ → Type 0
+IsFarOver g x = largest_coordinate < nat_abs x / g
+
 -- ---- sides and angles
 abbrev pub signum : ℤ → ℤ
 signum z = cond (int_lt z (pos 0)) (negsuc 0) (cond (int_lt (pos 0) z) (pos 1) (pos 0))
@@ -62,7 +69,7 @@ abbrev pub turn_order : Exp → Exp → Ordering
 turn_order d e = cond (turns_before d e) Less (cond (turns_before e d) Greater Equal)
 
 abbrev pub angle_order : Direction → Direction → Ordering
-angle_order d e = turn_order (exp_of d) (exp_of e)
+angle_order d e = turn_order (vector_of d) (vector_of e)
 
 -- the order of two directions of one half, by the sign of their determinant
 abbrev pub order_of : ℤ → Ordering

@@ -1,19 +1,16 @@
 //! Points and directions from their numbers, and the order of points.
 
-ghost use Rattle.std.specs.Prelude.{◌≡◌, ◌≤◌, ◌<◌, ◌/◌, ◌^◌, ◌≤ℤ◌, ◌↔◌, pos, nat_abs, IsTrue, IsSome, IfSome, MatchOption};
+ghost use Rattle.std.specs.Prelude.{◌≡◌, ◌≤◌, ◌≤ℤ◌, ◌↔◌, pos, IsTrue, IsSome, IfSome, MatchOption};
 ghost use Rattle.std.specs.Cmp.{IsTotalOrder};
 ghost use Rattle.scattering.specs.Plane.{IsNear, IsDirection};
 ghost use Rattle.plane_geom.specs.Places.{pair, IsSmall};
-ghost use Rattle.plane_geom.specs.Shown.{over, point_of, exp_of, IsQuotient, IsFar, point_order, position_order};
+ghost use Rattle.plane_geom.specs.Shown.{over, IsFarOver, IsNearOver, point_of, vector_of, IsQuotient, IsFar, point_order, position_order};
 
 use crate::products::product;
 use crate::{Direction, Point};
 use frac_128::gcd;
+use limits::{LARGEST_COORDINATE, LARGEST_DIRECTION};
 use std::cmp::Ordering;
-
-const LARGEST_OF_POINT: u128 = 1099511627776;
-
-const LARGEST_OF_DIRECTION: u32 = 4096;
 
 impl Point {
     /// (x/w, y/w) in lowest terms, or None where that has a number above 2^40 in absolute value.
@@ -52,7 +49,7 @@ impl Direction {
     /// (a, b), or None where the numbers have a common divisor above 1, are both 0, or one of them
     /// exceeds 4096 in absolute value.
     pub fn new(a: i32, b: i32) -> Option<Direction>
-        ensures numbers { IfSome result (λ d. exp_of d ≡ pair a b) }
+        ensures numbers { IfSome result (λ d. vector_of d ≡ pair a b) }
         ensures direction { IsSome result ↔ (IsDirection (pair a b) × IsSmall a b) }
     {
         if is_direction(a, b) {
@@ -67,7 +64,7 @@ fn is_direction(a: i32, b: i32) -> bool
     ensures { IsTrue result ↔ (IsDirection (pair a b) × IsSmall a b) }
 {
     let (x, y) = (a.unsigned_abs(), b.unsigned_abs());
-    if x > LARGEST_OF_DIRECTION || y > LARGEST_OF_DIRECTION {
+    if x > LARGEST_DIRECTION || y > LARGEST_DIRECTION {
         return false;
     }
     gcd(x as u128, y as u128) == 1
@@ -77,10 +74,10 @@ fn is_direction(a: i32, b: i32) -> bool
 fn shrunk(x: i128, g: u128) -> Option<i64>
     requires { 1 ≤ g }
     ensures value { IfSome result (λ v. v ≡ over g x) }
-    ensures near { MatchOption result (2 ^ 40 < nat_abs x / g) (λ v. nat_abs x / g ≤ 2 ^ 40) }
+    ensures near { MatchOption result (IsFarOver g x) (λ v. IsNearOver g x) }
 {
     let size = x.unsigned_abs() / g;
-    if size > LARGEST_OF_POINT {
+    if size > LARGEST_COORDINATE as u128 {
         return None;
     }
     let size = size as i64;

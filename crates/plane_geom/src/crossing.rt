@@ -3,9 +3,9 @@
 ghost use Rattle.std.specs.Prelude.{◌≡◌, ◌≢◌, ◌↔◌, ◌≤◌, ◌^◌, ◌≤ℤ◌, ◌*ℤ◌, pos, nat_abs, IsTrue};
 ghost use Rattle.scattering.specs.Series.{det};
 ghost use Rattle.scattering.specs.Plane.{difference};
-ghost use Rattle.plane_geom.specs.Shown.{exp_of, point_of, support_at, support_dir, HoldsAt, IsCommon, IsMeeting};
+ghost use Rattle.plane_geom.specs.Shown.{vector_of, point_of, support_at, support_dir, HoldsAt, IsCommon, IsMeeting};
 
-use crate::angle::cross;
+use crate::angle::det;
 use crate::products::{grown, minor, product, scaled, shifted};
 use crate::{Direction, Meeting, Point, Support};
 
@@ -15,7 +15,7 @@ pub fn meet(s: &Support, t: &Support) -> Meeting
 {
     let (p, d) = whole_line(s);
     let (r, e) = whole_line(t);
-    let turn = cross(d, e);
+    let turn = det(d, e);
     if turn == 0 {
         return Meeting::Parallel;
     }
@@ -32,7 +32,7 @@ pub fn meet(s: &Support, t: &Support) -> Meeting
 /// A point and the direction of the support's whole line.
 fn whole_line(s: &Support) -> (&Point, &Direction)
     ensures at { point_of result.0.now ≡ support_at s.now }
-    ensures dir { exp_of result.1.now ≡ support_dir s.now }
+    ensures dir { vector_of result.1.now ≡ support_dir s.now }
 {
     match s {
         Support::Line { at, dir } => (at, dir),
@@ -43,7 +43,7 @@ fn whole_line(s: &Support) -> (&Point, &Direction)
 /// det(r - p, e), times the positive number p.w * r.w. The lines through p along d and through r
 /// along e meet at p + n / (p.w * r.w * det(d, e)) * d, where n is this number.
 fn numerator(p: &Point, r: &Point, e: &Direction) -> i128
-    ensures value { result ≡ det (difference (point_of p.now) (point_of r.now)) (exp_of e.now) }
+    ensures value { result ≡ det (difference (point_of p.now) (point_of r.now)) (vector_of e.now) }
     ensures bound { nat_abs result ≤ 2 ^ 94 }
 {
     scaled(e.b, minor(r.x, p.w, p.x, r.w)) - scaled(e.a, minor(r.y, p.w, p.y, r.w))
@@ -73,7 +73,7 @@ fn common_point(p: &Point, d: &Direction, r: &Point, n: i128, turn: i64) -> Opti
     requires n { nat_abs n ≤ 2 ^ 94 }
     requires turn { nat_abs turn ≤ 2 ^ 25 }
     requires crossing { turn ≢ pos 0 }
-    ensures { IsCommon (point_of p.now) (exp_of d.now) (point_of r.now) n turn result }
+    ensures { IsCommon (point_of p.now) (vector_of d.now) (point_of r.now) n turn result }
 {
     let w = grown(product(p.w, r.w), turn);
     let x = shifted(product(p.x, r.w), turn, n, d.a);

@@ -56,6 +56,3 @@ pub enum Meeting {
     TooFar,
     At(Point),
 }
-
-#[cfg(test)]
-mod tests;

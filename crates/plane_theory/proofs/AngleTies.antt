@@ -1,15 +1,17 @@
--- Directions that tie in the order of angles: positive multiples, and equal where both are combination.
+-- Directions that tie in the order of angles: positive-mul multiples, and equal where both are combination.
 use Rattle.std.proofs.Common.{◌≡◌, ◌≢◌, refl, sym, ap, ◌∙◌, inl, inr, arith, Bool, true, false}
 use Rattle.std.specs.Prelude.{ℤ, pos, ◌+ℤ◌, ◌-ℤ◌, ◌*ℤ◌, neg_ℤ, ◌≤ℤ◌, IsTrue}
+use lib.IntN.{*ℤ_comm}
 use Rattle.std.proofs.lemmas.Int.{ints}
 use Rattle.scattering.proofs.Ring.{dif-up, dif-pos, dif-add, dif-neg, dif-mul, dif-same}
 use Rattle.scattering.specs.Series.{Exp, origin, det, dot}
 use Rattle.scattering.specs.Plane.{IsDirection, is_upper, turns_before}
-use Rattle.plane_theory.proofs.WholeNumbers.{cancel, dif-below, positive, positive_of, follows, follows3, zero_of}
+use Rattle.plane_theory.proofs.WholeNumbers.{cancel, dif-below, positive_of, follows, follows3, zero_of}
 use Rattle.plane_theory.proofs.Points.{norm-positive}
 use Rattle.plane_theory.proofs.LowestTerms.{at_least}
 use Rattle.plane_theory.proofs.Angles.{IsUpper, upper-out, lower-out, turned, det-turned, turns-in, tie}
 use Rattle.plane_theory.proofs.Directions.{combination}
+use Rattle.sum_algebra.proofs.Integers.{positive-mul}
 
 -- |e|²·d = (d·e)·e where det d e = 0
 along-a : (a b c d : ℤ) → a *ℤ d -ℤ b *ℤ c ≡ pos 0 → (c *ℤ c +ℤ d *ℤ d) *ℤ a ≡ (a *ℤ c +ℤ b *ℤ d) *ℤ c
@@ -18,24 +20,21 @@ along-a a b c d h = follows ((c *ℤ c +ℤ d *ℤ d) *ℤ a) ((a *ℤ c +ℤ b 
 along-b : (a b c d : ℤ) → a *ℤ d -ℤ b *ℤ c ≡ pos 0 → (c *ℤ c +ℤ d *ℤ d) *ℤ b ≡ (a *ℤ c +ℤ b *ℤ d) *ℤ d
 along-b a b c d h = follows ((c *ℤ c +ℤ d *ℤ d) *ℤ b) ((a *ℤ c +ℤ b *ℤ d) *ℤ d) (neg_ℤ c) (a *ℤ d -ℤ b *ℤ c) (pos 0) h (rw (dif-up a, dif-up b, dif-up c, dif-up d) (simp (dif-mul, dif-add, dif-neg, dif-pos) (dif-same _ _ _ _ (omega arith))))
 
-swap : (x y : ℤ) → x *ℤ y ≡ y *ℤ x
-swap x y = rw (dif-up x, dif-up y) (simp (dif-mul) (dif-same _ _ _ _ (omega arith)))
-
--- where n·x = t·y with n, x, y positive, t is positive
+-- where n·x = t·y with n, x, y positive-mul, t is positive-mul
 factor : (n x t y : ℤ) → pos 1 ≤ℤ n → pos 1 ≤ℤ x → pos 1 ≤ℤ y → n *ℤ x ≡ t *ℤ y → pos 1 ≤ℤ t
-factor n x t y h k l e = positive_of y t l (let p = positive n x h k in let s = swap t y in omega (arith, ints, p, s, e))
+factor n x t y h k l e = positive_of y t l (let p = positive-mul n x h k in let s = *ℤ_comm t y in omega (arith, ints, p, s, e))
 
 upper-dot : (d e : Exp) → IsUpper d → IsUpper e → pos 1 ≤ℤ (e.a *ℤ e.a +ℤ e.b *ℤ e.b) → det d e ≡ pos 0 → pos 1 ≤ℤ dot d e
 upper-dot d e (inl h) (inl k) n z = factor (e.a *ℤ e.a +ℤ e.b *ℤ e.b) d.b (dot d e) e.b n h k (along-b d.a d.b e.a e.b z)
 upper-dot d e (inl h) (inr k) n z =
-    let p = positive _ _ n h in let b = along-b d.a d.b e.a e.b z in let q : dot d e *ℤ e.b ≡ pos 0 = rw k.0 (omega (arith, ints)) in absurd (omega (arith, ints, p, b, q))
+    let p = positive-mul _ _ n h in let b = along-b d.a d.b e.a e.b z in let q : dot d e *ℤ e.b ≡ pos 0 = rw k.0 (omega (arith, ints)) in absurd (omega (arith, ints, p, b, q))
 upper-dot d e (inr h) (inr k) n z = factor (e.a *ℤ e.a +ℤ e.b *ℤ e.b) d.a (dot d e) e.a n h.1 k.1 (along-a d.a d.b e.a e.b z)
 upper-dot d e (inr h) (inl k) n z =
     let b = along-b d.a d.b e.a e.b z in
     let q : (e.a *ℤ e.a +ℤ e.b *ℤ e.b) *ℤ d.b ≡ pos 0 = rw h.0 (omega (arith, ints)) in
-    let t : dot d e ≡ pos 0 = zero_of e.b (dot d e) k (let s = swap (dot d e) e.b in omega (arith, ints, b, q, s)) in
+    let t : dot d e ≡ pos 0 = zero_of e.b (dot d e) k (let s = *ℤ_comm (dot d e) e.b in omega (arith, ints, b, q, s)) in
     let a = along-a d.a d.b e.a e.b z in
-    let p = positive _ _ n h.1 in
+    let p = positive-mul _ _ n h.1 in
     let r : dot d e *ℤ e.a ≡ pos 0 = rw t (omega (arith, ints)) in
     absurd (omega (arith, ints, a, p, r))
 
@@ -52,7 +51,7 @@ half-dot d e l m false p q z =
     let w = upper-dot (turned d) (turned e) (lower-out d l p) (lower-out e m q) (omega (arith, ints, r, s)) (det-turned d e ∙ z) in
     omega (arith, ints, w, t)
 
--- a positive multiple of the one is a positive multiple of the other
+-- a positive-mul multiple of the one is a positive-mul multiple of the other
 pub record AreMultiples (d e : Exp) : Type 0 where
   pub j : ℤ
   pub k : ℤ

@@ -1,12 +1,13 @@
--- The order of angles: strict, and its ties are positive multiples.
+-- The order of angles: strict, and its ties are positive-mul multiples.
 use Rattle.std.proofs.Common.{◌≡◌, ◌≢◌, refl, sym, ◌∙◌, ◌⊎◌, inl, inr, arith, Bool, true, false}
 use Rattle.std.specs.Prelude.{ℤ, pos, ◌+ℤ◌, ◌-ℤ◌, ◌*ℤ◌, neg_ℤ, ◌≤ℤ◌, IsTrue, int_lt, ◌&&◌, ◌||◌, not}
 use Rattle.std.proofs.lemmas.Int.{ints}
 use Rattle.scattering.proofs.Ring.{dif-up, dif-pos, dif-add, dif-neg, dif-mul, dif-same}
 use Rattle.scattering.specs.Series.{Exp, origin, det, int_eq}
 use Rattle.scattering.specs.Plane.{is_upper, turns_before}
-use Rattle.plane_theory.proofs.WholeNumbers.{positive, positive_of, sign}
+use Rattle.plane_theory.proofs.WholeNumbers.{positive_of, sign}
 use Rattle.plane_theory.proofs.PointOrder.{or-and}
+use Rattle.sum_algebra.proofs.Integers.{positive-mul}
 
 -- upper: the second number is above 0, or 0 with the first above 0;  else both are turned
 abbrev pub IsUpper : Exp → Type 0
@@ -32,19 +33,19 @@ flat-right da db ea = omega (arith, ints)
 -- in the upper half
 pub upper-trans : (d e f : Exp) → IsUpper d → IsUpper e → IsUpper f → pos 1 ≤ℤ det d e → pos 1 ≤ℤ det e f → pos 1 ≤ℤ det d f
 upper-trans d e f (inl h) (inl i) (inl j) k l =
-    positive_of e.b (det d f) i (let x = positive f.b (det d e) j k in let y = positive d.b (det e f) h l in let t = three d.a d.b e.a e.b f.a f.b in omega (arith, ints, x, y, t))
+    positive_of e.b (det d f) i (let x = positive-mul f.b (det d e) j k in let y = positive-mul d.b (det e f) h l in let t = three d.a d.b e.a e.b f.a f.b in omega (arith, ints, x, y, t))
 upper-trans d e f (inl h) (inl i) (inr j) k l =
-    positive_of e.b (det d f) i (let x : f.b *ℤ det d e ≡ pos 0 = rw j.0 (omega (arith, ints)) in let y = positive d.b (det e f) h l in let t = three d.a d.b e.a e.b f.a f.b in omega (arith, ints, x, y, t))
+    positive_of e.b (det d f) i (let x : f.b *ℤ det d e ≡ pos 0 = rw j.0 (omega (arith, ints)) in let y = positive-mul d.b (det e f) h l in let t = three d.a d.b e.a e.b f.a f.b in omega (arith, ints, x, y, t))
 upper-trans d e f (inr h) (inl i) (inl j) k l =
-    positive_of e.b (det d f) i (let x = positive f.b (det d e) j k in let y : d.b *ℤ det e f ≡ pos 0 = rw h.0 (omega (arith, ints)) in let t = three d.a d.b e.a e.b f.a f.b in omega (arith, ints, x, y, t))
+    positive_of e.b (det d f) i (let x = positive-mul f.b (det d e) j k in let y : d.b *ℤ det e f ≡ pos 0 = rw h.0 (omega (arith, ints)) in let t = three d.a d.b e.a e.b f.a f.b in omega (arith, ints, x, y, t))
 upper-trans d e f (inr h) (inl i) (inr j) k l =
     let n : det e f ≡ neg_ℤ (e.b *ℤ f.a) = rw j.0 (flat-right e.a e.b f.a) in
-    let m = positive e.b f.a i j.1 in absurd (omega (arith, ints, n, m, l))
+    let m = positive-mul e.b f.a i j.1 in absurd (omega (arith, ints, n, m, l))
 upper-trans d e f h (inr i) j k l =
     let n : det d e ≡ neg_ℤ (d.b *ℤ e.a) = rw i.0 (flat-right d.a d.b e.a) in absurd (none h n)
   where
     none : IsUpper d → det d e ≡ neg_ℤ (d.b *ℤ e.a) → ⊥
-    none (inl h) n = let m = positive d.b e.a h i.1 in omega (arith, ints, n, m, k)
+    none (inl h) n = let m = positive-mul d.b e.a h i.1 in omega (arith, ints, n, m, k)
     none (inr h) n = let m : d.b *ℤ e.a ≡ pos 0 = rw h.0 (omega (arith, ints)) in omega (arith, ints, n, m, k)
 
 -- ---- the lower half, turned

@@ -5,9 +5,10 @@ use Rattle.std.proofs.lemmas.Int.{ints}
 use Rattle.scattering.proofs.Ring.{dif-up, dif-neg, dif-mul, dif-same}
 use Rattle.scattering.specs.Series.{Exp, det}
 use Rattle.scattering.specs.Plane.{Point, IsPoint, difference}
-use Rattle.plane_theory.proofs.WholeNumbers.{positive, sign}
+use Rattle.plane_theory.proofs.WholeNumbers.{sign}
 use Rattle.plane_theory.proofs.Meetings.{meet_w, meet_x, meet_y, IsMeeting, meets, formula-meets, meeting-first, meeting-second, one-meeting}
 use Rattle.plane_theory.proofs.Reduction.{reduce}
+use Rattle.sum_algebra.proofs.Integers.{positive-mul}
 
 pub record IsCommon (p : Point) (d : Exp) (r : Point) (e : Exp) (q : Point) : Type 0 where
   pub point : IsPoint q
@@ -36,10 +37,10 @@ common p d r e i j n = go (sign (det d e))
     go : (det d e ≡ pos 0) ⊎ ((pos 1 ≤ℤ det d e) ⊎ (pos 1 ≤ℤ neg_ℤ (det d e))) → (q : Point) × IsCommon p d r e q
     go (inl z) = absurd (n z)
     go (inr (inl l)) =
-        let q = reduce (meet_x p d r e) (meet_y p d r e) (meet_w p d r e) (positive (p.w *ℤ r.w) (det d e) (positive p.w r.w i.below j.below) l) in
+        let q = reduce (meet_x p d r e) (meet_y p d r e) (meet_w p d r e) (positive-mul (p.w *ℤ r.w) (det d e) (positive-mul p.w r.w i.below j.below) l) in
         found q.point q.is (formula-meets p d r e q.point q.first q.second)
     go (inr (inr l)) =
-        let w : pos 1 ≤ℤ neg_ℤ (meet_w p d r e) = (let t = positive (p.w *ℤ r.w) (neg_ℤ (det d e)) (positive p.w r.w i.below j.below) l in let m = minus-right (p.w *ℤ r.w) (det d e) in omega (arith, ints, t, m)) in
+        let w : pos 1 ≤ℤ neg_ℤ (meet_w p d r e) = (let t = positive-mul (p.w *ℤ r.w) (neg_ℤ (det d e)) (positive-mul p.w r.w i.below j.below) l in let m = minus-right (p.w *ℤ r.w) (det d e) in omega (arith, ints, t, m)) in
         let q = reduce (neg_ℤ (meet_x p d r e)) (neg_ℤ (meet_y p d r e)) (neg_ℤ (meet_w p d r e)) w in
         found q.point q.is
         (formula-meets p d r e q.point (unsign q.point.x (meet_w p d r e) (meet_x p d r e) q.point.w q.first) (unsign q.point.y (meet_w p d r e) (meet_y p d r e) q.point.w q.second))

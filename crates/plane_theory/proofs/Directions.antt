@@ -12,6 +12,7 @@ use Rattle.sum_algebra.proofs.IntegerRing.{ints_ring, ◌:+◌, ◌:*◌, ◌:-�
 use Rattle.scattering.specs.Series.{Exp, scale, origin, det}
 use Rattle.scattering.specs.Plane.{IsDirection}
 use Rattle.scattering.proofs.Bezout.{Bezout, bezout}
+use Rattle.plane_theory.proofs.LowestTerms.{abs-sign}
 
 nat_product : (m n : ℕ) → suc m * suc n ≡ 0 → ⊥
 nat_product m n e = omega (arith, e)
@@ -27,7 +28,7 @@ no-zero (negsuc m) (negsuc n) e =
     let f : negsuc m *ℤ pos (suc n) ≡ pos 0 = ring ints_ring (negsuc m ∷ pos (suc n) ∷ []) (X :* Y) (minus (X :* minus Y)) refl ∙ ap neg_ℤ e in
     let k : suc m * suc n ≡ 0 = omega (arith, ints, negsuc-*ℤ-pos m (suc n), f) in absurd (nat_product m n k)
 
-from-difference : (x y : ℤ) → x -ℤ y ≡ pos 0 → x ≡ y
+pub from-difference : (x y : ℤ) → x -ℤ y ≡ pos 0 → x ≡ y
 from-difference x y e = omega (arith, ints, e)
 
 pub cancel : (j x y : ℤ) → j ≢ pos 0 → j *ℤ x ≡ j *ℤ y → x ≡ y
@@ -44,10 +45,6 @@ pub zero-factor : (j x : ℤ) → j ≢ pos 0 → j *ℤ x ≡ pos 0 → x ≡ p
 zero-factor j x n e = elim (no-zero j x e) [ inl z ↦ absurd (n z) | inr z ↦ z ]
 
 -- ---- directions
-
-abs-sign : (a : ℤ) → (s : ℤ) × (pos (nat_abs a) ≡ s *ℤ a)
-abs-sign (pos n) = (pos 1, ring ints_ring (pos n ∷ []) X (E.unit :* X) refl)
-abs-sign (negsuc n) = (negsuc 0, ring ints_ring (pos (suc n) ∷ []) X (minus E.unit :* minus X) refl)
 
 -- a combination that is 1
 pub combination : (d : Exp) → IsDirection d → (u v : ℤ) × (u *ℤ d.a +ℤ v *ℤ d.b ≡ pos 1)

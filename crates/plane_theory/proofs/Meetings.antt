@@ -5,9 +5,11 @@ use Rattle.std.proofs.lemmas.Int.{ints}
 use Rattle.scattering.proofs.Ring.{dif-up, dif-pos, dif-add, dif-neg, dif-mul, dif-same}
 use Rattle.scattering.specs.Series.{Exp, origin, det, dot}
 use Rattle.scattering.specs.Plane.{Point, IsPoint, difference, FromOn}
-use Rattle.plane_theory.proofs.WholeNumbers.{positive, not_negative, not_negative_of, zero_of, follows, follows2, follows3, square-positive}
+use Rattle.plane_theory.proofs.WholeNumbers.{not_negative, not_negative_of, zero_of, follows, follows2, follows3, square-positive, distribute}
 use Rattle.plane_theory.proofs.Points.{norm-positive, test-from, from-test}
 use Rattle.plane_theory.proofs.LowestTerms.{same-point}
+use Rattle.plane_theory.proofs.Directions.{zero-factor}
+use Rattle.sum_algebra.proofs.Integers.{positive-mul}
 
 -- along the first line the common point of (p, d) and (r, e) is at numer/(p.w·r.w·det d e)
 abbrev pub numer : Point → Point → Exp → ℤ
@@ -53,15 +55,12 @@ times-det c n da db u v h k = follows2 (c *ℤ (da *ℤ v -ℤ db *ℤ u)) (pos 
 squared : (c x : ℤ) → c *ℤ x ≡ pos 0 → (c *ℤ c) *ℤ x ≡ pos 0
 squared c x h = follows ((c *ℤ c) *ℤ x) (pos 0) c (c *ℤ x) (pos 0) h (rw (dif-up c, dif-up x) (simp (dif-mul, dif-add, dif-neg, dif-pos) (dif-same _ _ _ _ (omega arith))))
 
-pub zero_by : (c x : ℤ) → c ≢ pos 0 → c *ℤ x ≡ pos 0 → x ≡ pos 0
-zero_by c x n h = zero_of (c *ℤ c) x (square-positive c n) (squared c x h)
-
 not-zero : (a b : ℤ) → pos 1 ≤ℤ a → b ≢ pos 0 → a *ℤ b ≢ pos 0
 not-zero a b h n e = n (zero_of a b h e)
 
 -- the point of the formula is on the first line, and on the second
 pub meeting-first : (p : Point) (d : Exp) (r : Point) (e : Exp) (q : Point) → pos 1 ≤ℤ r.w → det d e ≢ pos 0 → IsMeeting p d r e q → det d (difference p q) ≡ pos 0
-meeting-first p d r e q u n h = zero_by (r.w *ℤ det d e) _ (not-zero r.w (det d e) u n) (times-det (r.w *ℤ det d e) (q.w *ℤ numer p r e) d.a d.b (difference p q).a (difference p q).b h.x h.y)
+meeting-first p d r e q u n h = zero-factor (r.w *ℤ det d e) _ (not-zero r.w (det d e) u n) (times-det (r.w *ℤ det d e) (q.w *ℤ numer p r e) d.a d.b (difference p q).a (difference p q).b h.x h.y)
 
 -- (D·pw)·det e (q - r) = 0
 part1 : (D pw r qw u u' a e : ℤ) → r *ℤ u ≡ pw *ℤ u' +ℤ qw *ℤ a → (D *ℤ pw) *ℤ (e *ℤ u') ≡ e *ℤ ((r *ℤ D) *ℤ u) -ℤ (D *ℤ qw) *ℤ (e *ℤ a)
@@ -71,9 +70,6 @@ part1 D pw r qw u u' a e h =
 
 part2 : (ea eb da db a b : ℤ) → ea *ℤ ((a *ℤ eb -ℤ b *ℤ ea) *ℤ db) -ℤ eb *ℤ ((a *ℤ eb -ℤ b *ℤ ea) *ℤ da) ≡ (da *ℤ eb -ℤ db *ℤ ea) *ℤ (ea *ℤ b) -ℤ (da *ℤ eb -ℤ db *ℤ ea) *ℤ (eb *ℤ a)
 part2 ea eb da db a b = rw (dif-up ea, dif-up eb, dif-up da, dif-up db, dif-up a, dif-up b) (simp (dif-mul, dif-add, dif-neg) (dif-same _ _ _ _ (omega arith)))
-
-spread : (c x y : ℤ) → c *ℤ (x -ℤ y) ≡ c *ℤ x -ℤ c *ℤ y
-spread c x y = rw (dif-up c, dif-up x, dif-up y) (simp (dif-mul, dif-add, dif-neg) (dif-same _ _ _ _ (omega arith)))
 
 factor : (qw e N d : ℤ) → e *ℤ ((qw *ℤ N) *ℤ d) ≡ qw *ℤ (e *ℤ (N *ℤ d))
 factor qw e N d = rw (dif-up qw, dif-up e, dif-up N, dif-up d) (simp (dif-mul) (dif-same _ _ _ _ (omega arith)))
@@ -92,8 +88,8 @@ second D pw r qw u v u' v' a b ea eb da db o h k l m =
     part1 D pw r qw u u' a eb h ∙ ap (λ z. eb *ℤ z -ℤ (D *ℤ qw) *ℤ (eb *ℤ a)) l
     ∙ ap (λ z. z -ℤ (D *ℤ qw) *ℤ (eb *ℤ a)) (factor qw eb (a *ℤ eb -ℤ b *ℤ ea) da) ∙ ap (λ z. qw *ℤ (eb *ℤ ((a *ℤ eb -ℤ b *ℤ ea) *ℤ da)) -ℤ z) (factor' D qw (eb *ℤ a)) in
     let w : qw *ℤ (ea *ℤ ((a *ℤ eb -ℤ b *ℤ ea) *ℤ db)) -ℤ qw *ℤ (eb *ℤ ((a *ℤ eb -ℤ b *ℤ ea) *ℤ da)) ≡ qw *ℤ (D *ℤ (ea *ℤ b)) -ℤ qw *ℤ (D *ℤ (eb *ℤ a)) =
-    sym (spread qw (ea *ℤ ((a *ℤ eb -ℤ b *ℤ ea) *ℤ db)) (eb *ℤ ((a *ℤ eb -ℤ b *ℤ ea) *ℤ da))) ∙ ap (λ z. qw *ℤ z) (part2 ea eb da db a b ∙ ap (λ z. z *ℤ (ea *ℤ b) -ℤ z *ℤ (eb *ℤ a)) (sym o)) ∙ spread qw (D *ℤ (ea *ℤ b)) (D *ℤ (eb *ℤ a)) in
-    let s = spread (D *ℤ pw) (ea *ℤ v') (eb *ℤ u') in
+    sym (distribute qw (ea *ℤ ((a *ℤ eb -ℤ b *ℤ ea) *ℤ db)) (eb *ℤ ((a *ℤ eb -ℤ b *ℤ ea) *ℤ da))) ∙ ap (λ z. qw *ℤ z) (part2 ea eb da db a b ∙ ap (λ z. z *ℤ (ea *ℤ b) -ℤ z *ℤ (eb *ℤ a)) (sym o)) ∙ distribute qw (D *ℤ (ea *ℤ b)) (D *ℤ (eb *ℤ a)) in
+    let s = distribute (D *ℤ pw) (ea *ℤ v') (eb *ℤ u') in
     linear ((D *ℤ pw) *ℤ (ea *ℤ v' -ℤ eb *ℤ u')) ((D *ℤ pw) *ℤ (ea *ℤ v')) ((D *ℤ pw) *ℤ (eb *ℤ u'))
     (qw *ℤ (ea *ℤ ((a *ℤ eb -ℤ b *ℤ ea) *ℤ db))) (qw *ℤ (D *ℤ (ea *ℤ b))) (qw *ℤ (eb *ℤ ((a *ℤ eb -ℤ b *ℤ ea) *ℤ da))) (qw *ℤ (D *ℤ (eb *ℤ a))) s x y w
   where
@@ -102,7 +98,7 @@ second D pw r qw u v u' v' a b ea eb da db o h k l m =
 
 pub meeting-second : (p : Point) (d : Exp) (r : Point) (e : Exp) (q : Point) → pos 1 ≤ℤ p.w → det d e ≢ pos 0 → IsMeeting p d r e q → det e (difference r q) ≡ pos 0
 meeting-second p d r e q u n h =
-    zero_by (det d e *ℤ p.w) _ (λ z. n (zero_of p.w (det d e) u (turned p.w (det d e) z)))
+    zero-factor (det d e *ℤ p.w) _ (λ z. n (zero_of p.w (det d e) u (turned p.w (det d e) z)))
     (second (det d e) p.w r.w q.w (difference p q).a (difference p q).b (difference r q).a (difference r q).b (difference p r).a (difference p r).b e.a e.b d.a d.b refl (chain p.x p.w r.x r.w q.x q.w) (chain p.y p.w r.y r.w q.y q.w) h.x h.y)
   where
     turned : (a b : ℤ) → b *ℤ a ≡ pos 0 → a *ℤ b ≡ pos 0
@@ -117,10 +113,10 @@ one-x c px pw qx qw sx sw n d h k =
 pub one-meeting : (p : Point) (d : Exp) (r : Point) (e : Exp) (q s : Point) → IsPoint p → IsPoint r → det d e ≢ pos 0 → IsPoint q → IsPoint s → IsMeeting p d r e q → IsMeeting p d r e s → q ≡ s
 one-meeting p d r e q s i j n h k a b =
     let c = not-zero r.w (det d e) j.below n in
-    let z : (r.w *ℤ det d e) *ℤ p.w ≢ pos 0 = λ f. c (zero_by p.w (r.w *ℤ det d e) (λ g. let l = i.below in omega (arith, ints, l, g)) (turned p.w (r.w *ℤ det d e) f)) in
+    let z : (r.w *ℤ det d e) *ℤ p.w ≢ pos 0 = λ f. c (zero-factor p.w (r.w *ℤ det d e) (λ g. let l = i.below in omega (arith, ints, l, g)) (turned p.w (r.w *ℤ det d e) f)) in
     same-point q s h k
-    (let x = zero_by ((r.w *ℤ det d e) *ℤ p.w) (q.x *ℤ s.w -ℤ s.x *ℤ q.w) z (one-x (r.w *ℤ det d e) p.x p.w q.x q.w s.x s.w (numer p r e) d.a a.x b.x) in omega (arith, ints, x))
-    (let y = zero_by ((r.w *ℤ det d e) *ℤ p.w) (q.y *ℤ s.w -ℤ s.y *ℤ q.w) z (one-x (r.w *ℤ det d e) p.y p.w q.y q.w s.y s.w (numer p r e) d.b a.y b.y) in omega (arith, ints, y))
+    (let x = zero-factor ((r.w *ℤ det d e) *ℤ p.w) (q.x *ℤ s.w -ℤ s.x *ℤ q.w) z (one-x (r.w *ℤ det d e) p.x p.w q.x q.w s.x s.w (numer p r e) d.a a.x b.x) in omega (arith, ints, x))
+    (let y = zero-factor ((r.w *ℤ det d e) *ℤ p.w) (q.y *ℤ s.w -ℤ s.y *ℤ q.w) z (one-x (r.w *ℤ det d e) p.y p.w q.y q.w s.y s.w (numer p r e) d.b a.y b.y) in omega (arith, ints, y))
   where
     turned : (a b : ℤ) → b *ℤ a ≡ pos 0 → a *ℤ b ≡ pos 0
     turned a b h = follows (a *ℤ b) (pos 0) (pos 1) (b *ℤ a) (pos 0) h (rw (dif-up a, dif-up b) (simp (dif-mul, dif-add, dif-neg, dif-pos) (dif-same _ _ _ _ (omega arith))))
@@ -136,8 +132,8 @@ by-square r D x qw N n h = follows ((r *ℤ (D *ℤ D)) *ℤ x) ((qw *ℤ n) *�
 pub meeting-ahead : (p : Point) (d : Exp) (r : Point) (e : Exp) (q : Point) → pos 1 ≤ℤ p.w → pos 1 ≤ℤ r.w → pos 1 ≤ℤ q.w → d ≢ origin → det d e ≢ pos 0 → IsMeeting p d r e q → FromOn p d q ↔ (pos 0 ≤ℤ (numer p r e *ℤ det d e))
 meeting-ahead p d r e q u v w m n h =
     let s = by-square r.w (det d e) (dot d (difference p q)) q.w (numer p r e) (d.a *ℤ d.a +ℤ d.b *ℤ d.b) (dot-meets (r.w *ℤ det d e) (q.w *ℤ numer p r e) d.a d.b (difference p q).a (difference p q).b h.x h.y) in
-    let left = positive r.w (det d e *ℤ det d e) v (square-positive (det d e) n) in
-    let right = positive q.w (d.a *ℤ d.a +ℤ d.b *ℤ d.b) w (norm-positive d m) in (
+    let left = positive-mul r.w (det d e *ℤ det d e) v (square-positive (det d e) n) in
+    let right = positive-mul q.w (d.a *ℤ d.a +ℤ d.b *ℤ d.b) w (norm-positive d m) in (
       λ f. not_negative_of (q.w *ℤ (d.a *ℤ d.a +ℤ d.b *ℤ d.b)) (numer p r e *ℤ det d e) right
           (let t = not_negative (r.w *ℤ (det d e *ℤ det d e)) (dot d (difference p q)) (let l = left in omega (arith, ints, l)) (from-test p d q u w f).1 in subst (λ (x : ℤ). pos 0 ≤ℤ x) s t),
       λ l. test-from p d q u w m (meeting-first p d r e q v n h)

@@ -4,8 +4,9 @@ use Rattle.std.specs.Prelude.{ℤ, pos, ◌+ℤ◌, ◌-ℤ◌, ◌*ℤ◌, ◌�
 use Rattle.scattering.proofs.Ring.{dif-up, dif-pos, dif-add, dif-neg, dif-mul, dif-same}
 use Rattle.scattering.specs.Series.{Exp, scale}
 use Rattle.scattering.specs.Plane.{Point, difference}
-use Rattle.plane_theory.proofs.WholeNumbers.{positive, follows2}
+use Rattle.plane_theory.proofs.WholeNumbers.{follows2}
 use Rattle.plane_theory.proofs.Points.{Onto}
+use Rattle.sum_algebra.proofs.Integers.{positive-mul}
 
 -- from p by n/d, and on by m/c: q.w·n·c + p.w·m·d of p.w·... in the scaled form
 sum-one : (px pw qx qw rx rw' n d m c e : ℤ) → d *ℤ (qx *ℤ pw -ℤ px *ℤ qw) ≡ n *ℤ e → c *ℤ (rx *ℤ qw -ℤ qx *ℤ rw') ≡ m *ℤ e
@@ -16,7 +17,7 @@ sum-one px pw qx qw rx rw' n d m c e h k =
 
 pub onto-add : (p : Point) (e : Exp) (n d : ℤ) (q : Point) (m c : ℤ) (r : Point) → pos 1 ≤ℤ q.w → Onto p e n d q → Onto q e m c r → Onto p e (n *ℤ (c *ℤ r.w) +ℤ m *ℤ (d *ℤ p.w)) (d *ℤ c *ℤ q.w) r
 onto-add p e n d q m c r u h k = record {
-  below = positive (d *ℤ c) q.w (positive d c h.below k.below) u;
+  below = positive-mul (d *ℤ c) q.w (positive-mul d c h.below k.below) u;
   x = sum-one p.x p.w q.x q.w r.x r.w n d m c e.a h.x k.x;
   y = sum-one p.y p.w q.y q.w r.y r.w n d m c e.b h.y k.y;
 }

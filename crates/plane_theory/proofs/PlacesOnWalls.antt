@@ -9,9 +9,10 @@ use Rattle.scattering.specs.Wall.{WallKind, Line, Incoming, Outgoing, allows, On
 use Rattle.scattering.proofs.Lists.{and-in, and-left, and-right}
 use Rattle.scattering.proofs.Keys.{int_eq-same}
 use Rattle.plane_theory.proofs.Directions.{direction-not_origin}
-use Rattle.plane_theory.proofs.WholeNumbers.{positive, not_negative, not_negative_of}
+use Rattle.plane_theory.proofs.WholeNumbers.{not_negative, not_negative_of}
 use Rattle.plane_theory.proofs.Points.{at-onto, onto-at, onto-det, onto-dot, dot-onto, norm-positive}
 use Rattle.plane_theory.specs.Laws.{OnIsDecided}
+use Rattle.sum_algebra.proofs.Integers.{positive-mul}
 
 -- where d·x = n·u, x has the sign of n
 sign-up : (d x n u : ℤ) → pos 1 ≤ℤ d → pos 1 ≤ℤ u → d *ℤ x ≡ n *ℤ u → pos 0 ≤ℤ n → pos 0 ≤ℤ x
@@ -57,7 +58,7 @@ on-is-decided n w p wall point = (forth, back)
     back : On w p → IsTrue (is_on w p)
     back h =
         let o = at-onto w.at w.dir h.0 h.1 p h.3 in
-        let u = positive _ _ (positive w.at.w p.w wall.point.below point.below) (norm-positive w.dir (direction-not_origin w.dir wall.direction)) in
+        let u = positive-mul _ _ (positive-mul w.at.w p.w wall.point.below point.below) (norm-positive w.dir (direction-not_origin w.dir wall.direction)) in
         let e = onto-dot w.at w.dir _ h.1 p o ∙ grouped h.0 (w.at.w *ℤ p.w) (w.dir.a *ℤ w.dir.a +ℤ w.dir.b *ℤ w.dir.b) in
         and-in (int_eq (det w.dir (difference w.at p)) (pos 0)) (allows w.kind (dot w.dir (difference w.at p))) (zero-in _ (onto-det w.at w.dir _ h.1 p o))
         (allows-same w.kind h.1 (dot w.dir (difference w.at p)) h.0 _ o.below u e h.2)

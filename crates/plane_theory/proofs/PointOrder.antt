@@ -5,8 +5,9 @@ use Rattle.std.proofs.lemmas.Int.{ints}
 use Rattle.scattering.proofs.Ring.{dif-up, dif-add, dif-neg, dif-mul, dif-same}
 use Rattle.scattering.specs.Series.{Exp, int_eq}
 use Rattle.scattering.specs.Plane.{Point, IsPoint, difference, point_before}
-use Rattle.plane_theory.proofs.WholeNumbers.{positive, positive_of, sign, zero_of}
+use Rattle.plane_theory.proofs.WholeNumbers.{positive_of, sign, zero_of}
 use Rattle.plane_theory.proofs.LowestTerms.{no-difference}
+use Rattle.sum_algebra.proofs.Integers.{positive-mul, times-zero}
 
 -- the first number of q - p is above 0, or it is 0 and the second is above 0
 abbrev pub IsAbove : Exp → Type 0
@@ -59,13 +60,10 @@ above-before p q h = before-in (p.x *ℤ q.w) (q.x *ℤ p.w) (p.y *ℤ q.w) (q.y
 chain : (px pw qx qw rx rw' : ℤ) → pw *ℤ (rx *ℤ qw -ℤ qx *ℤ rw') +ℤ rw' *ℤ (qx *ℤ pw -ℤ px *ℤ qw) ≡ qw *ℤ (rx *ℤ pw -ℤ px *ℤ rw')
 chain px pw qx qw rx rw' = rw (dif-up px, dif-up pw, dif-up qx, dif-up qw, dif-up rx, dif-up rw') (simp (dif-mul, dif-add, dif-neg) (dif-same _ _ _ _ (omega arith)))
 
-times-zero : (a b : ℤ) → b ≡ pos 0 → a *ℤ b ≡ pos 0
-times-zero a b e = rw e (omega (arith, ints))
-
 sum-positive : (u v w a b c : ℤ) → pos 1 ≤ℤ u → pos 1 ≤ℤ v → pos 1 ≤ℤ w → u *ℤ a +ℤ v *ℤ b ≡ w *ℤ c → IsZeroOrMore a → IsZeroOrMore b → ((pos 1 ≤ℤ a) ⊎ (pos 1 ≤ℤ b)) → pos 1 ≤ℤ c
-sum-positive u v w a b c l m n e (inl h) (inl k) o = positive_of w c n (let x = positive u a l h in let y = positive v b m k in omega (arith, ints, x, y, e))
-sum-positive u v w a b c l m n e (inl h) (inr k) o = positive_of w c n (let x = positive u a l h in let y = times-zero v b k in omega (arith, ints, x, y, e))
-sum-positive u v w a b c l m n e (inr h) (inl k) o = positive_of w c n (let x = times-zero u a h in let y = positive v b m k in omega (arith, ints, x, y, e))
+sum-positive u v w a b c l m n e (inl h) (inl k) o = positive_of w c n (let x = positive-mul u a l h in let y = positive-mul v b m k in omega (arith, ints, x, y, e))
+sum-positive u v w a b c l m n e (inl h) (inr k) o = positive_of w c n (let x = positive-mul u a l h in let y = times-zero v b k in omega (arith, ints, x, y, e))
+sum-positive u v w a b c l m n e (inr h) (inl k) o = positive_of w c n (let x = times-zero u a h in let y = positive-mul v b m k in omega (arith, ints, x, y, e))
 sum-positive u v w a b c l m n e (inr h) (inr k) (inl o) = absurd (omega (arith, ints, h, o))
 sum-positive u v w a b c l m n e (inr h) (inr k) (inr o) = absurd (omega (arith, ints, k, o))
 

@@ -5,7 +5,8 @@ use Rattle.std.proofs.lemmas.Int.{ints}
 use Rattle.scattering.proofs.Ring.{dif-up, dif-pos, dif-add, dif-neg, dif-mul, dif-same}
 use Rattle.scattering.specs.Series.{Exp, origin, det, dot, scale}
 use Rattle.scattering.specs.Plane.{Point, difference, IsAt, FromOn, Beyond}
-use Rattle.plane_theory.proofs.WholeNumbers.{cancel, positive, not_negative, positive_of, not_negative_of, follows, follows2, square, square-positive, sign}
+use Rattle.plane_theory.proofs.WholeNumbers.{cancel, not_negative, positive_of, not_negative_of, follows, follows2, square, square-positive, sign}
+use Rattle.sum_algebra.proofs.Integers.{positive-mul}
 
 -- d·(q - p), times p.w·q.w, is n·e
 pub record Onto (p : Point) (e : Exp) (n d : ℤ) (q : Point) : Type 0 where
@@ -28,7 +29,7 @@ at-onto p e n d q h = record { below = h.below; x = at-one p.x p.w q.x q.w n d e
 
 pub onto-at : (p : Point) (e : Exp) (n d : ℤ) (q : Point) → pos 1 ≤ℤ p.w → pos 1 ≤ℤ q.w → Onto p e n d q → IsAt p e n (d *ℤ (p.w *ℤ q.w)) q
 onto-at p e n d q u v h = record {
-  below = positive d (p.w *ℤ q.w) h.below (positive p.w q.w u v);
+  below = positive-mul d (p.w *ℤ q.w) h.below (positive-mul p.w q.w u v);
   x = at-other p.x p.w q.x q.w n d e.a h.x;
   y = at-other p.y p.w q.y q.w n d e.b h.y;
 }
@@ -89,7 +90,7 @@ norm-positive e n = go (sign e.a) (sign e.b)
 pub from-test : (p : Point) (e : Exp) (q : Point) → pos 1 ≤ℤ p.w → pos 1 ≤ℤ q.w → FromOn p e q → (det e (difference p q) ≡ pos 0) × (pos 0 ≤ℤ dot e (difference p q))
 from-test p e q u v h =
     let o = at-onto p e h.0 h.1 q h.3 in
-    let r : pos 0 ≤ℤ (h.1 *ℤ dot e (difference p q)) = rw (onto-dot p e _ h.1 q o) (not_negative _ _ (not_negative h.0 _ h.2 (let z = positive p.w q.w u v in omega (arith, ints, z))) (let s = square e.a in let t = square e.b in omega (arith, ints, s, t))) in
+    let r : pos 0 ≤ℤ (h.1 *ℤ dot e (difference p q)) = rw (onto-dot p e _ h.1 q o) (not_negative _ _ (not_negative h.0 _ h.2 (let z = positive-mul p.w q.w u v in omega (arith, ints, z))) (let s = square e.a in let t = square e.b in omega (arith, ints, s, t))) in
     (onto-det p e _ h.1 q o, not_negative_of h.1 _ o.below r)
 
 pub test-from : (p : Point) (e : Exp) (q : Point) → pos 1 ≤ℤ p.w → pos 1 ≤ℤ q.w → e ≢ origin → det e (difference p q) ≡ pos 0 → pos 0 ≤ℤ dot e (difference p q) → FromOn p e q
@@ -99,7 +100,7 @@ test-from p e q u v n h k =
 pub beyond-test : (p : Point) (e : Exp) (q : Point) → pos 1 ≤ℤ p.w → pos 1 ≤ℤ q.w → e ≢ origin → Beyond p e q → (det e (difference p q) ≡ pos 0) × (pos 1 ≤ℤ dot e (difference p q))
 beyond-test p e q u v n h =
     let o = at-onto p e h.0 h.1 q h.3 in
-    let r : pos 1 ≤ℤ (h.1 *ℤ dot e (difference p q)) = rw (onto-dot p e _ h.1 q o) (positive _ _ (positive h.0 _ h.2 (positive p.w q.w u v)) (norm-positive e n)) in
+    let r : pos 1 ≤ℤ (h.1 *ℤ dot e (difference p q)) = rw (onto-dot p e _ h.1 q o) (positive-mul _ _ (positive-mul h.0 _ h.2 (positive-mul p.w q.w u v)) (norm-positive e n)) in
     (onto-det p e _ h.1 q o, positive_of h.1 _ o.below r)
 
 pub test-beyond : (p : Point) (e : Exp) (q : Point) → pos 1 ≤ℤ p.w → pos 1 ≤ℤ q.w → e ≢ origin → det e (difference p q) ≡ pos 0 → pos 1 ≤ℤ dot e (difference p q) → Beyond p e q
@@ -135,18 +136,18 @@ onto-forth p e n d q h = record {
 }
 
 weight : (p q : Point) → pos 1 ≤ℤ p.w → pos 1 ≤ℤ q.w → pos 1 ≤ℤ (p.w *ℤ q.w)
-weight p q u v = positive p.w q.w u v
+weight p q u v = positive-mul p.w q.w u v
 
 -- from o along -e to p, and from p along e to o
 pub beyond-back : (o : Point) (e : Exp) (p : Point) → pos 1 ≤ℤ o.w → pos 1 ≤ℤ p.w → Beyond o (scale (neg_ℤ (pos 1)) e) p → Beyond p e o
 beyond-back o e p u v h =
     let k = onto-back o e _ h.1 p (at-onto o (scale (neg_ℤ (pos 1)) e) h.0 h.1 p h.3) in
-    (h.0 *ℤ (o.w *ℤ p.w), h.1 *ℤ (p.w *ℤ o.w), positive h.0 _ h.2 (weight o p u v), onto-at p e _ h.1 o v u k)
+    (h.0 *ℤ (o.w *ℤ p.w), h.1 *ℤ (p.w *ℤ o.w), positive-mul h.0 _ h.2 (weight o p u v), onto-at p e _ h.1 o v u k)
 
 pub beyond-forth : (p : Point) (e : Exp) (o : Point) → pos 1 ≤ℤ p.w → pos 1 ≤ℤ o.w → Beyond p e o → Beyond o (scale (neg_ℤ (pos 1)) e) p
 beyond-forth p e o u v h =
     let k = onto-forth p e _ h.1 o (at-onto p e h.0 h.1 o h.3) in
-    (h.0 *ℤ (p.w *ℤ o.w), h.1 *ℤ (o.w *ℤ p.w), positive h.0 _ h.2 (weight p o u v), onto-at o (scale (neg_ℤ (pos 1)) e) _ h.1 p v u k)
+    (h.0 *ℤ (p.w *ℤ o.w), h.1 *ℤ (o.w *ℤ p.w), positive-mul h.0 _ h.2 (weight p o u v), onto-at o (scale (neg_ℤ (pos 1)) e) _ h.1 p v u k)
 
 pub beyond-from : (p : Point) (e : Exp) (q : Point) → Beyond p e q → FromOn p e q
 beyond-from p e q h = (h.0, h.1, let k = h.2 in omega (arith, ints, k), h.3)

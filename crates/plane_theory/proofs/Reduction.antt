@@ -11,7 +11,7 @@ use Rattle.scattering.specs.Plane.{Point, IsPoint}
 use Rattle.plane_theory.proofs.LowestTerms.{same-point}
 use Rattle.plane_theory.proofs.WholeNumbers.{cancel, follows2}
 
-quotient : (g n : ℕ) → g ∣ n → n ≡ g * (n / g)
+pub quotient : (g n : ℕ) → g ∣ n → n ≡ g * (n / g)
 quotient g n h = let e = mod-eq-zero_of_dvd g h in omega (arith, e)
 
 -- x divided by g, which divides it

@@ -5,7 +5,9 @@ use Rattle.std.proofs.lemmas.Int.{ints}
 use Rattle.scattering.specs.Series.{Exp, Powers, Key, int_eq, exp_eq, exp_before, powers_before, key_before}
 use Rattle.scattering.specs.Plane.{Point, IsPoint, point_eq, point_before}
 use Rattle.scattering.proofs.Lists.{or-first, or-second, or-out, and-in, and-left, and-right}
-use Rattle.scattering.proofs.Keys.{exp_eq-same, exp_eq-refl, point_eq-refl, int_eq-same, int_eq-refl, point_eq-same}
+use Rattle.scattering.proofs.Keys.{exp_eq-refl, point_eq-refl, int_eq-refl, point_eq-same}
+use Rattle.scattering.proofs.Tests.{nat_lt-trans, nat_eq-same}
+use Rattle.scattering.proofs.KeyOrder.{exp_before-trans}
 use Rattle.plane_theory.proofs.PointOrder.{before-trans, before-total}
 
 -- one is before the other, or they are equal
@@ -50,12 +52,6 @@ nat-total x y = go (nat_lt x y) refl (nat_lt y x) refl
     go false p true q = inr (inl q)
     go false p false q = inr (inr (grind arith))
 
-nat-trans : (x y z : ℕ) → nat_lt x y ≡ true → nat_lt y z ≡ true → nat_lt x z ≡ true
-nat-trans x y z p q = grind arith
-
-nat-same : (x y : ℕ) → (x == y) ≡ true → x ≡ y
-nat-same x y e = grind arith
-
 nat-itself : (x : ℕ) → (x == x) ≡ true
 nat-itself x = grind arith
 
@@ -77,14 +73,11 @@ exp-total u v =
     compared-as ((u.a ≡ v.a) × (u.b ≡ v.b)) (u ≡ v) (λ e. λ i. record { a = e.0 i; b = e.1 i })
     (two-total int_lt int_eq int_eq-refl u.a v.a (int_lt u.b v.b) (int_lt v.b u.b) (u.b ≡ v.b) (int-total u.a v.a) (int-total u.b v.b))
 
-pub exp-trans : (u v w : Exp) → exp_before u v ≡ true → exp_before v w ≡ true → exp_before u w ≡ true
-exp-trans u v w = two-trans int_lt int_eq int_eq-same int_eq-refl u.a v.a w.a (int_lt u.b v.b) (int_lt v.b w.b) (int_lt u.b w.b) (int-trans u.a v.a w.a) (int-trans u.b v.b w.b)
-
 first-total : (x y : ℕ) (l g : Bool) (E : Type 0) → Compared l g E → Compared (nat_lt x y || ((x == y) && l)) (nat_lt y x || ((y == x) && g)) ((x ≡ y) × E)
 first-total x y l g E c = two-total nat_lt (λ x y. x == y) nat-itself x y l g E (nat-total x y) c
 
 first-trans : (x y z : ℕ) (l m n : Bool) → (l ≡ true → m ≡ true → n ≡ true) → (nat_lt x y || ((x == y) && l)) ≡ true → (nat_lt y z || ((y == z) && m)) ≡ true → (nat_lt x z || ((x == z) && n)) ≡ true
-first-trans x y z l m n h = two-trans nat_lt (λ x y. x == y) nat-same nat-itself x y z l m n (nat-trans x y z) h
+first-trans x y z l m n h = two-trans nat_lt (λ x y. x == y) nat_eq-same nat-itself x y z l m n (nat_lt-trans x y z) h
 
 pub powers-total : (p q : Powers) → Compared (powers_before p q) (powers_before q p) (p ≡ q)
 powers-total p q =
@@ -101,20 +94,10 @@ powers-total p q =
     (first-total p.t1 q.t1 _ _ _ (first-total p.t2 q.t2 _ _ _ (first-total p.t3 q.t3 _ _ _ (first-total p.t4 q.t4 _ _ _
     (first-total p.t5 q.t5 _ _ _ (first-total p.t6 q.t6 _ _ _ (first-total p.t7 q.t7 _ _ _ (nat-total p.t8 q.t8))))))))
 
-pub powers-trans : (p q r : Powers) → powers_before p q ≡ true → powers_before q r ≡ true → powers_before p r ≡ true
-powers-trans p q r =
-    first-trans p.t1 q.t1 r.t1 _ _ _ (first-trans p.t2 q.t2 r.t2 _ _ _ (first-trans p.t3 q.t3 r.t3 _ _ _ (first-trans p.t4 q.t4 r.t4 _ _ _
-    (first-trans p.t5 q.t5 r.t5 _ _ _ (first-trans p.t6 q.t6 r.t6 _ _ _ (first-trans p.t7 q.t7 r.t7 _ _ _ (nat-trans p.t8 q.t8 r.t8)))))))
-
 pub key-total : (k l : Key) → Compared (key_before k l) (key_before l k) (k ≡ l)
 key-total k l =
     compared-as ((k.exp ≡ l.exp) × (k.powers ≡ l.powers)) (k ≡ l) (λ e. λ i. record { powers = e.1 i; exp = e.0 i })
     (two-total exp_before exp_eq exp_eq-refl k.exp l.exp (powers_before k.powers l.powers) (powers_before l.powers k.powers) (k.powers ≡ l.powers) (exp-total k.exp l.exp) (powers-total k.powers l.powers))
-
-pub key-trans : (k l m : Key) → key_before k l ≡ true → key_before l m ≡ true → key_before k m ≡ true
-key-trans k l m =
-    two-trans exp_before exp_eq exp_eq-same exp_eq-refl k.exp l.exp m.exp (powers_before k.powers l.powers) (powers_before l.powers m.powers) (powers_before k.powers m.powers)
-    (exp-trans k.exp l.exp m.exp) (powers-trans k.powers l.powers m.powers)
 
 -- ---- the place of a ray: its start, then its direction
 
@@ -140,4 +123,4 @@ place-total p q h k =
 pub place-trans : (p q r : Place) → IsPoint p.0 → IsPoint q.0 → IsPoint r.0 → place_before p q ≡ true → place_before q r ≡ true → place_before p r ≡ true
 place-trans p q r h k l =
     two-trans point_before point_eq point_eq-same point_eq-refl p.0 q.0 r.0 (exp_before p.1 q.1) (exp_before q.1 r.1) (exp_before p.1 r.1)
-    (λ a b. before-trans p.0 q.0 r.0 h.below k.below l.below a b) (exp-trans p.1 q.1 r.1)
+    (λ a b. before-trans p.0 q.0 r.0 h.below k.below l.below a b) (exp_before-trans p.1 q.1 r.1)

@@ -12,11 +12,6 @@ dif-below n = dif-up (negsuc n)
 nat-positive : (a b : ℕ) → 1 ≤ a → 1 ≤ b → 1 ≤ a * b
 nat-positive a b h k = omega (arith, mul-le-mul_left a k)
 
-pub positive : (x y : ℤ) → pos 1 ≤ℤ x → pos 1 ≤ℤ y → pos 1 ≤ℤ (x *ℤ y)
-positive (pos a) (pos b) h k = let l : 1 ≤ a * b = nat-positive a b (omega (arith, ints, h)) (omega (arith, ints, k)) in omega (arith, ints, l)
-positive (pos a) (negsuc b) h k = absurd (omega (arith, ints, k))
-positive (negsuc a) y h k = absurd (omega (arith, ints, h))
-
 pub not_negative : (x y : ℤ) → pos 0 ≤ℤ x → pos 0 ≤ℤ y → pos 0 ≤ℤ (x *ℤ y)
 not_negative (pos a) (pos b) h k = omega (arith, ints)
 not_negative (pos a) (negsuc b) h k = absurd (omega (arith, ints, k))

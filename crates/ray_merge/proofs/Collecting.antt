@@ -1,30 +1,31 @@
 -- The rays of corrections, collected from one point after another.
 --     AddsAt c ws              ws have what the correction c adds
 --     AddsUp cs rest ws        ws have what the corrections cs add before `rest`
-use Rattle.std.proofs.Common.{◌≡◌, ◌≢◌, ℕ, zero, suc, ◌+◌, ◌<◌, ◌≤◌, ◌^◌, refl, sym, subst, ap, ◌∙◌, Bool, true, false, List, [], ◌∷◌, ◌++◌, length, get_or, drop, add-one, drop-cons, arith, inl, inr}
+use Rattle.std.proofs.Common.{◌≡◌, ◌≢◌, ℕ, zero, suc, ◌+◌, ◌<◌, ◌≤◌, refl, sym, subst, ap, ◌∙◌, Bool, true, false, List, [], ◌∷◌, ◌++◌, length, get_or, drop, add-one, drop-cons, arith, inl, inr}
 use Rattle.std.specs.Prelude.{ℤ, pos, neg_ℤ, ◌+ℤ◌, ◌*ℤ◌, nat_abs, IsTrue}
 use Rattle.std.specs.Int.{IsGcd}
 use Rattle.std.proofs.lemmas.Int.{ints}
 use Rattle.scattering.specs.Collections.{In, Every, EveryPair}
-use Rattle.scattering.specs.Series.{Exp, Key, Sum, degree, mass_to, IsMultiple}
+use Rattle.scattering.specs.Series.{Exp, Key, Sum, degree, IsMultiple}
 use Rattle.scattering.specs.Plane.{Point, IsDirection, point_eq, point_before}
 use Rattle.scattering.specs.Wall.{Wall, Outgoing}
 use Rattle.scattering.specs.Completion.{ray_before, IsReduced}
 use Rattle.scattering.specs.Correction.{Lie, Corrections, ratio_at, ray_coef, IsAdded}
 use Rattle.scattering.proofs.Lists.{Every-implies, Every-append, Every-at, Every-from_In, pairs-append, map-append, or-first}
 use Rattle.scattering.proofs.Keys.{point_eq-same}
+use Rattle.scattering.proofs.Pairing.{skip-zero}
 use Rattle.plane_theory.proofs.PointOrder.{before-irrefl}
 use Rattle.correction_theory.proofs.MergedDiagram.{not-listed, not-origin}
 use Rattle.plane_geom.specs.declared.Point.{Point as CodePoint}
 use Rattle.plane_geom.specs.Shown.{point_of}
-use Rattle.trunc_series.proofs.Coefficients.{skip-zero, add-zero}
+use Rattle.trunc_series.proofs.Coefficients.{add-zero}
 use Rattle.scatter_diagram.specs.declared.wall.Wall.{Wall as CodeWall}
 use Rattle.scatter_diagram.specs.Shown.{wall_of, walls_of}
 use Rattle.scatter_diagram.specs.Listed.{AreRays}
 use Rattle.ray_merge.specs.Additions.{AreAdded, corrections_of}
-use Rattle.ray_merge.specs.Rays.{load, HasNewTerms}
+use Rattle.ray_merge.specs.Rays.{load, mass_along, HasNewTerms}
 use Rattle.ray_merge.proofs.Steps.{ray_coef-append}
-use Rattle.ray_merge.proofs.Terms.{CountsTerms, HasTerms, of-keys}
+use Rattle.ray_merge.proofs.Terms.{CountsTerms, HasTerms, of-keys, all-start}
 use Rattle.ray_merge.proofs.Values.{added-values}
 
 abbrev pub AddsAt : Point × Lie → List Wall → Type 0
@@ -43,12 +44,26 @@ adds-at p h f ws a dist counts q d k id mk = go (point_eq p q) refl
         rw e (subst (λ (v : ℤ). (g : ℕ) × IsGcd (nat_abs k.exp.a) (nat_abs k.exp.b) g × (v *ℤ (ratio_at h k).den ≡ neg_ℤ (pos g *ℤ (ratio_at h k).num))) (sym (counts q d k id mk ∙ rw e refl)) (added-values h f a dist k (not-origin d id k.exp mk)))
     go false e = rw e (counts q d k id mk ∙ rw e refl)
 
-pub new-terms : (n : ℕ) (p : Point) (f : Sum) (ws : List Wall) → HasTerms n p f ws → Every (λ t. degree t.0 ≡ n) f → mass_to n f ≤ 2 ^ 126 → Every (HasNewTerms n) ws
-new-terms n p f ws h d m =
+pub new-terms : (n : ℕ) (p : Point) (l : Lie) (f : Sum) (ws : List Wall) → HasTerms n p f ws → Every (λ t. degree t.0 ≡ n) f → AreAdded l f → Every (HasNewTerms n ((p, l) ∷ [])) ws
+new-terms n p l f ws h d a =
     Every-from_In _ ws (λ w i. record {
       degrees = Every-at _ ws w (of-keys (λ k. degree k ≡ n) n p f ws h d) i;
-      light = let l = Every-at (λ w. load n w ≤ mass_to n f) ws w h.loads i in omega (arith, l, m);
+      source = ((p, l), inl refl, Every-at (λ w. w.at ≡ p) ws w (all-start n p f ws h) i, (f, a, Every-at (λ w. load n w ≤ mass_along n f w.dir) ws w h.loads i));
     })
+
+-- what one of the corrections adds
+pub new-among : (n : ℕ) (c : Point × Lie) (cs : Corrections) (ws : List Wall) → In c cs → Every (HasNewTerms n (c ∷ [])) ws → Every (HasNewTerms n cs) ws
+new-among n c cs ws i h = Every-implies (HasNewTerms n (c ∷ [])) (HasNewTerms n cs) ws (λ w t. record { degrees = t.degrees; source = among w t.source }) h
+  where
+    Source : Corrections → Wall → Type 0
+    Source bs w = (b : Point × Lie) × In b bs × (w.at ≡ b.0) × ((f : Sum) × AreAdded b.1 f × (load n w ≤ mass_along n f w.dir))
+
+    among : (w : Wall) → Source (c ∷ []) w → Source cs w
+    among w s = (s.0, only s.0 s.1, s.2, s.3)
+      where
+        only : (b : Point × Lie) → In b (c ∷ []) → In b cs
+        only b (inl e) = subst (λ (x : Point × Lie). In x cs) (sym e) i
+        only b (inr n) = absurd n
 
 -- ---- one correction after another
 
@@ -98,9 +113,6 @@ rises-more c others ws us h e rw' ru = record {
       (Every-implies _ (λ w. Every (λ u. IsTrue (ray_before w u)) us) ws
       (λ w q. Every-implies (λ u. u.at ≡ c.0) (λ u. IsTrue (ray_before w u)) us (λ u x. or-first (point_before w.at u.at) _ (subst (λ (p : Point). IsTrue (point_before w.at p)) (sym x) q.0)) e) h);
 }
-
-pub starts-more : (points : List Point) (c : Point × Lie) (ws us : List Wall) → In c.0 points → Every (λ w. In w.at points) ws → Every (λ w. w.at ≡ c.0) us → Every (λ w. In w.at points) (ws ++ us)
-starts-more points c ws us i h e = Every-append _ ws us h (Every-implies (λ w. w.at ≡ c.0) (λ w. In w.at points) us (λ w q. subst (λ (p : Point). In p points) (sym q) i) e)
 
 -- ---- the program's lists
 

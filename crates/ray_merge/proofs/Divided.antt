@@ -7,10 +7,10 @@ use Rattle.std.proofs.lemmas.Int.{ints, to_z-of_z, to_z_pos, unsigned_abs-mul}
 use Rattle.std.proofs.lemmas.Nat.Gcd.{le_of_dvd, same_from_IsGcd}
 use Rattle.sum_algebra.proofs.Ring.{minus, ring}
 use Rattle.sum_algebra.proofs.IntegerRing.{ints_ring, ◌:*◌, X, Y, Z}
+use Rattle.sum_algebra.proofs.Integers.{zero-or-not}
 use Rattle.scattering.specs.Series.{Exp, origin, IsMultiple}
 use Rattle.scattering.specs.Plane.{IsDirection}
 use Rattle.plane_theory.proofs.Directions.{Multiple, as_multiple, cancel, positive-not}
-use Rattle.correction_theory.proofs.MergedTerms.{zero-or-not}
 use Rattle.frac_128.specs.Quotient.{IsLowest}
 use Rattle.frac_128.proofs.Divided.{divided}
 use Rattle.frac_128.proofs.Lowest.{cancel as cancel-right}

@@ -7,12 +7,14 @@ use Rattle.scattering.specs.Series.{Exp, Key, Term, Sum, degree, unit, one, coef
 use Rattle.scattering.proofs.Lists.{Every-from_In, Every-at, Every-implies, Every-append, Every-filter, filter-from, filter-keeps, not-out, pairs-append, pairs-filter}
 use Rattle.scattering.proofs.Keys.{key_eq-same, key_eq-refl, key_eq-apart}
 use Rattle.scattering.proofs.DistinctKeys.{rising-distinct}
-use Rattle.plane_theory.proofs.StrictOrder.{coef-own, coef-find, coef-none, coef-rest}
 use Rattle.scattering.specs.Wall.{Outgoing}
+use Rattle.scattering.proofs.Coefficients.{coef-none, coef-rest}
+use Rattle.scattering.proofs.Pairing.{coef-append, skip-zero}
+use Rattle.scattering.proofs.Determined.{coef-own, coef-find}
 use Rattle.correction_theory.proofs.MergedTerms.{rest-at-unit}
 use Rattle.correction_theory.proofs.MergedDiagram.{live-by}
-use Rattle.trunc_series.specs.Shown.{Seen, IsSeriesOf, IsTerm, IsValid}
-use Rattle.trunc_series.proofs.Coefficients.{apart-rising, coef-append, skip-zero, add-zero}
+use Rattle.trunc_series.specs.Shown.{Seen, IsSeriesOf}
+use Rattle.trunc_series.proofs.Coefficients.{apart-rising, add-zero}
 use Rattle.trunc_series.proofs.Mass.{mass-least}
 use Rattle.trunc_series.proofs.Products.{mass-append}
 use Rattle.scatter_diagram.specs.Proper.{IsTame}
@@ -43,7 +45,7 @@ split-coef f c k = go (key_eq k unit) refl
 rest-apart : (f : Sum) → Every (λ t. key_eq t.0 unit ≡ false) (rest f)
 rest-apart f = Every-from_In _ (rest f) (λ t i. not-out (key_eq t.0 unit) (filter-from (λ (t : Term). not (key_eq t.0 unit)) f t i).1)
 
-mass-one : (n : ℕ) (f : Sum) → mass_to n (one ++ f) ≡ 1 + mass_to n f
+pub mass-one : (n : ℕ) (f : Sum) → mass_to n (one ++ f) ≡ 1 + mass_to n f
 mass-one n f = rw (low n) refl
   where
     low : (n : ℕ) → nat_le (degree unit) n ≡ true
@@ -67,14 +69,6 @@ mass-higher m n (t ∷ f) l h = rw (low (degree t.0) n (omega (arith, l, h.0)), 
     low d k h = grind arith
 
 -- ---- read at a higher order
-
--- the terms of a series, as they are given to another
-pub terms-given : (m n : ℕ) (f : Sum) → m ≤ n → IsValid m f → Every (IsTerm n) f
-terms-given m n f l v = Every-from_In _ f (λ t i. (Every-at _ f t v.series.nonzero i, Every-at _ f t v.small i, let d = Every-at (λ (u : Term). degree u.0 ≤ m) f t v.series.low i in omega (arith, d, l)))
-
--- a list that a series can be made of
-pub terms-own : (n : ℕ) (f : Sum) → IsValid n f → Every (IsTerm n) f
-terms-own n f v = terms-given n n f (omega arith) v
 
 pub function-higher : (m n : ℕ) (d : Exp) (f : Sum) → m ≤ n → IsWallFunction m d f → IsWallFunction n d f
 function-higher m n d f l w = record {

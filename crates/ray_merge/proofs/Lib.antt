@@ -2,11 +2,11 @@ pub mod Functions
 pub mod Steps
 pub mod Places
 pub mod Walls
+pub mod Along
 pub mod Divided
 pub mod RayLists
 pub mod Terms
 pub mod Together
 pub mod Collecting
-pub mod NextOrder
-pub mod Worked
 pub mod Values
+pub mod NextOrder

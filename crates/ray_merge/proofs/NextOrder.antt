@@ -1,36 +1,39 @@
 -- The rays of one order and what corrections of the next add: they can be joined, and make the merged diagram.
-use Rattle.std.proofs.Common.{◌≡◌, ℕ, ◌+◌, ◌<◌, ◌≤◌, ◌^◌, refl, sym, subst, ap, ◌∙◌, true, not, List, map, arith}
-use Rattle.std.specs.Prelude.{◌+ℤ◌, ◌&&◌, IsTrue}
+use Rattle.std.proofs.Common.{◌≡◌, ℕ, ◌+◌, ◌<◌, ◌≤◌, sym, subst, ap, ◌∙◌, ◌++◌, ◌≢◌, List, le_trans, arith}
+use Rattle.std.specs.Prelude.{ℤ, nat_abs, ◌+ℤ◌}
+use Rattle.std.specs.List.{sum_by}
 use Rattle.scattering.specs.Collections.{In, Every}
-use Rattle.scattering.specs.Series.{Exp, Key, Term, degree, rest, mass_to, IsMultiple}
+use Rattle.scattering.specs.Series.{Exp, Key, Term, Sum, degree, origin, rest, mass_to, IsMultiple}
 use Rattle.scattering.specs.Plane.{Point, IsDirection}
-use Rattle.scattering.specs.Wall.{WallKind, Outgoing, Wall, Diagram, IsWall, is_line, starts_at, cut_walls}
+use Rattle.scattering.specs.Wall.{Wall, Diagram, IsWall, cut_walls}
 use Rattle.scattering.specs.Correction.{Lie, Corrections, ray_coef, IsAdded, IsMerged}
-use Rattle.scattering.proofs.Lists.{Every-from_In, Every-at, Every-filter, In-map}
-use Rattle.scattering.proofs.Keys.{point_eq-refl}
+use Rattle.scattering.proofs.Lists.{Every-from_In, Every-at, Every-filter, Every-implies}
 use Rattle.scatter_diagram.specs.declared.wall.Wall.{Wall as CodeWall}
 use Rattle.scatter_diagram.specs.Shown.{walls_of}
 use Rattle.scatter_diagram.specs.Listed.{AreRays}
 use Rattle.scatter_diagram.proofs.Walls.{are-walls}
-use Rattle.ray_merge.specs.Rays.{load, HasNewTerms, IsJoinable, AreJoinable}
-use Rattle.ray_merge.specs.Answer.{AreLightStarts}
-use Rattle.ray_merge.proofs.Functions.{mass-split}
+use Rattle.limits.specs.Limits.{largest_weight, largest_mass}
+use Rattle.trunc_series.proofs.Products.{mass-append}
+use Rattle.weight_theory.specs.Laws.{AreWhole}
+use Rattle.ray_merge.specs.Additions.{AreAdded, terms_along}
+use Rattle.ray_merge.specs.Rays.{load, mass_along, HasNewTerms, IsJoinable, AreJoinable}
+use Rattle.ray_merge.specs.Answer.{StaysWithin, StayWithin}
+use Rattle.ray_merge.proofs.Along.{mass_along-low}
+use Rattle.ray_merge.proofs.Functions.{mass-one, mass-split}
+use Rattle.ray_merge.proofs.Values.{added-keys, added-mass}
 
-starts : (r : Wall) (p : Point) → r.kind ≡ Outgoing → r.at ≡ p → IsTrue (starts_at r p)
-starts r p k e = subst (λ (q : Point). IsTrue (starts_at r q)) e (rw (point_eq-refl r.at) (subst (λ (x : WallKind). (not (is_line x) && true) ≡ true) (sym k) refl))
-
-pub next-joinable : (n m : ℕ) (cs : Corrections) (rays added : List CodeWall) → m + 1 ≡ n → AreRays m rays → AreRays n added → Every (λ w. In w.at (map (λ c. c.0) cs)) (walls_of added) → Every (HasNewTerms n) (walls_of added)
-    → AreLightStarts n cs (walls_of rays) → AreJoinable n (walls_of rays) (walls_of added)
-next-joinable n m cs rays added next hr ha points terms light = Every-from_In _ (walls_of rays) (λ r i. Every-from_In _ (walls_of added) (λ s j at dir. pair r s i j at))
+pub next-joinable : (n m : ℕ) (cs : Corrections) (rays added : List CodeWall) → m + 1 ≡ n → AreRays m rays → AreRays n added → Every (HasNewTerms n cs) (walls_of added)
+    → StayWithin n cs (walls_of rays) → AreJoinable n (walls_of rays) (walls_of added)
+next-joinable n m cs rays added next hr ha terms light = Every-from_In _ (walls_of rays) (λ r i. Every-from_In _ (walls_of added) (λ s j at dir. pair r s i j at dir))
   where
-    pair : (r s : Wall) → In r (walls_of rays) → In s (walls_of added) → r.at ≡ s.at → IsJoinable n r s
-    pair r s i j at = record { distinct = Every-from_In _ (rest r.function) (λ t x. Every-from_In _ (rest s.function) (λ u y e. apart t u x y e)); light = within }
+    pair : (r s : Wall) → In r (walls_of rays) → In s (walls_of added) → r.at ≡ s.at → r.dir ≡ s.dir → IsJoinable n r s
+    pair r s i j at dir = record { distinct = Every-from_In _ (rest r.function) (λ t x. Every-from_In _ (rest s.function) (λ u y e. apart t u x y e)); light = within }
       where
         w : IsWall m r
         w = Every-at (IsWall m) (walls_of rays) r (are-walls m rays hr.order) i
 
-        new : HasNewTerms n s
-        new = Every-at (HasNewTerms n) (walls_of added) s terms j
+        new : HasNewTerms n cs s
+        new = Every-at (HasNewTerms n cs) (walls_of added) s terms j
 
         apart : (t u : Term) → In t (rest r.function) → In u (rest s.function) → t.0 ≡ u.0 → ⊥
         apart t u x y e =
@@ -39,16 +42,23 @@ next-joinable n m cs rays added next hr ha points terms light = Every-from_In _ 
             let d : degree t.0 ≡ degree u.0 = ap degree e in
             omega (arith, a, b, d, next)
 
-        start : (c : Point × Lie) × In c cs × (s.at ≡ c.0)
-        start = In-map (λ (c : Point × Lie). c.0) cs s.at (Every-at (λ (w : Wall). In w.at (map (λ c. c.0) cs)) (walls_of added) s points j)
+        -- the correction whose terms are those of s
+        c : Point × Lie
+        c = new.source.0
 
-        mass : mass_to n r.function ≤ 2 ^ 126
-        mass =
-            Every-at (λ (r : Wall). IsTrue (starts_at r start.0.0) → mass_to n r.function ≤ 2 ^ 126) (walls_of rays) r (Every-at (λ c. Every (λ r. IsTrue (starts_at r c.0) → mass_to n r.function ≤ 2 ^ 126) (walls_of rays)) cs start.0 light start.1) i
-            (starts r start.0.0 (Every-at (λ (r : Wall). r.kind ≡ Outgoing) (walls_of rays) r hr.outgoing i) (at ∙ start.2))
+        terms-of : Sum
+        terms-of = new.source.3.0
 
-        within : load n r + load n s < 2 ^ 127
-        within = let e = mass-split n r.function w.function.series.rises w.function.constant in let l = new.light in let k = mass in omega (arith, e, l, k)
+        mass : mass_to n (r.function ++ terms_along r.dir terms-of) ≤ largest_mass
+        mass = (Every-at (λ (c : Point × Lie). StaysWithin n c.0 c.1 (walls_of rays)) cs c light new.source.1).old terms-of r new.source.3.1 i (at ∙ new.source.2)
+
+        within : load n r + load n s < largest_mass
+        within =
+            let e = mass-split n r.function w.function.series.rises w.function.constant in
+            let a = mass-append n r.function (terms_along r.dir terms-of) in
+            let l : load n s ≤ mass_along n terms-of r.dir = subst (λ (d : Exp). load n s ≤ mass_along n terms-of d) (sym dir) new.source.3.2 in
+            let k = mass in
+            omega (arith, e, a, l, k)
 
 pub next-merged : (given : List Wall) (e : Diagram) (cs : Corrections) (n : ℕ) (lines added : List Wall) (rays : List CodeWall) → lines ≡ cut_walls n given → AreRays n rays
     → ((p : Point) (d : Exp) (k : Key) → ray_coef (walls_of rays) p d k ≡ ray_coef e.rays p d k +ℤ ray_coef added p d k)
@@ -61,3 +71,14 @@ next-merged given e cs n lines added rays i r terms adds = record {
   reduced = r.reduced;
   added = λ p d k id g le is. (ray_coef added p d k, adds p d k id (g, le, is), terms p d k);
 }
+
+-- where the whole values of a correction sum to at most 2^126, and so do the masses of the rays from its point
+pub stays-within : (n : ℕ) (p : Point) (h : Lie) (rays : List Wall) → Every (λ t. (degree t.0 ≡ n) × (t.0.exp ≢ origin)) h → ((vs : List ℤ) → AreWhole h vs → sum_by nat_abs vs ≤ largest_weight)
+    → ((r : Wall) → In r rays → r.at ≡ p → mass_to n r.function ≤ largest_weight) → StaysWithin n p h rays
+stays-within n p h rays degrees values masses = record {
+  new = λ f a d id. let e = mass-one n (terms_along d f) in let l = added f d a in omega (arith, e, l);
+  old = λ f r a i at. let e = mass-append n r.function (terms_along r.dir f) in let l = added f r.dir a in let m = masses r i at in omega (arith, e, l, m);
+}
+  where
+    added : (f : Sum) (d : Exp) → AreAdded h f → mass_along n f d ≤ largest_weight
+    added f d a = le_trans (mass_along-low n f d) (added-mass n largest_weight h f a (added-keys (λ k. degree k ≡ n) h f a (Every-implies _ _ h (λ t q. q.0) degrees)) values)

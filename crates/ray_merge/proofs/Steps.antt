@@ -15,7 +15,7 @@ use Rattle.scattering.specs.Correction.{ray_coef}
 use Rattle.scattering.proofs.Lists.{Every-implies, Every-append, Every-left, Every-right, pairs-append}
 use Rattle.plane_theory.proofs.TotalOrder.{Place, Compared, place_before, place-trans, place-total}
 use Rattle.trunc_series.proofs.Terms.{is-less, is-greater, is-equal}
-use Rattle.ray_merge.specs.Rays.{load, ray_order, IsJoined, AreLoads}
+use Rattle.ray_merge.specs.Rays.{load, ray_order, IsJoined, AreLoads, AreLoadsOfBoth}
 
 abbrev place_of : Wall → Place
 place_of r = (r.at, r.dir)
@@ -35,7 +35,7 @@ pub record Merging (n : ℕ) (a b out r s : List Wall) : Type 0 where
   pub first : Rises (out ++ r)
   pub second : Rises (out ++ s)
   pub terms : (p : Point) (d : Exp) (k : Key) → ray_coef out p d k +ℤ (ray_coef r p d k +ℤ ray_coef s p d k) ≡ ray_coef a p d k +ℤ ray_coef b p d k
-  pub loads : (m l : ℕ) → AreLoads n m a → AreLoads n l b → AreLoads n (m + l) out × AreLoads n m r × AreLoads n l s
+  pub loads : (m l : Exp → ℕ) → AreLoads n m a → AreLoads n l b → AreLoads n (λ d. m d + l d) out × AreLoads n m r × AreLoads n l s
 
 pub start : (n : ℕ) (a b : List Wall) → Every IsRay a → Every IsRay b → Rises a → Rises b → Merging n a b [] a b
 start n a b ga gb ra rb = record {
@@ -54,7 +54,7 @@ swapped n a b out r s h = record {
   first = h.second;
   second = h.first;
   terms = λ p d k. swap (ray_coef out p d k) (ray_coef r p d k) (ray_coef s p d k) (ray_coef a p d k) (ray_coef b p d k) (h.terms p d k);
-  loads = λ m l x y. let q = h.loads l m y x in (Every-implies (λ w. load n w ≤ l + m) (λ w. load n w ≤ m + l) out (λ w z. omega (arith, z)) q.0, q.2, q.1);
+  loads = λ m l x y. let q = h.loads l m y x in (Every-implies (λ w. load n w ≤ l w.dir + m w.dir) (λ w. load n w ≤ m w.dir + l w.dir) out (λ w z. omega (arith, z)) q.0, q.2, q.1);
 }
   where
     swap : (o r s a b : ℤ) → o +ℤ (r +ℤ s) ≡ a +ℤ b → o +ℤ (s +ℤ r) ≡ b +ℤ a
@@ -138,11 +138,14 @@ take-both n a b out r s x y w h e f j = record {
   terms = λ p d k. ap (λ c. c +ℤ (ray_coef r p d k +ℤ ray_coef s p d k)) (ray_coef-append out (w ∷ []) p d k ∙ ap (λ c. ray_coef out p d k +ℤ (c +ℤ pos 0)) (joined-part x y w n j e f p d k))
       ∙ moved (ray_coef out p d k) (cond (point_eq x.at p && exp_eq x.dir d) (coef (rest x.function) k) (pos 0)) (cond (point_eq y.at p && exp_eq y.dir d) (coef (rest y.function) k) (pos 0))
       (ray_coef r p d k) (ray_coef s p d k) (ray_coef a p d k +ℤ ray_coef b p d k) (h.terms p d k);
-  loads = λ m l u v. let q = h.loads m l u v in (Every-append _ out (w ∷ []) q.0 (let i = q.1.0 in let z = q.2.0 in let t = j.load in (omega (arith, i, z, t), tt)), q.1.1, q.2.1);
+  loads = λ m l u v. let q = h.loads m l u v in (Every-append _ out (w ∷ []) q.0 ((heavier (load n w) (load n x) (load n y) (m w.dir) (m x.dir) (l w.dir) (l y.dir) q.1.0 q.2.0 j.load (ap m j.dir) (ap l (j.dir ∙ f)), tt)), q.1.1, q.2.1);
 }
   where
     without : (out : List Wall) (x : Wall) (r : List Wall) → Rises (out ++ x ∷ r) → Rises (out ++ r)
     without out x r h = pairs-append _ out r (first-part out (x ∷ r) h) (second-part out (x ∷ r) h).1 (Every-implies (λ u. IsBefore u (x ∷ r)) (λ u. IsBefore u r) out (λ u b. b.1) (across out (x ∷ r) h))
+
+    heavier : (a b c d e f g : ℕ) → b ≤ e → c ≤ g → a ≤ b + c → d ≡ e → f ≡ g → a ≤ d + f
+    heavier a b c d e f g h i j k l = omega (arith, h, i, j, k, l)
 
     moved : (o c g r s t : ℤ) → o +ℤ ((c +ℤ r) +ℤ (g +ℤ s)) ≡ t → (o +ℤ ((c +ℤ g) +ℤ pos 0)) +ℤ (r +ℤ s) ≡ t
     moved o c g r s t e = omega (arith, ints, e)
@@ -174,14 +177,14 @@ pub record Merged (n : ℕ) (a b out : List Wall) : Type 0 where
   pub rays : Every IsRay out
   pub rises : Rises out
   pub terms : (p : Point) (d : Exp) (k : Key) → ray_coef out p d k ≡ ray_coef a p d k +ℤ ray_coef b p d k
-  pub loads : (m l : ℕ) → AreLoads n m a → AreLoads n l b → AreLoads n (m + l) out
+  pub loads : AreLoadsOfBoth n a b out
 
 end-first : (n : ℕ) (a b out r : List Wall) → Merging n a b out r [] → Merged n a b (out ++ r)
 end-first n a b out r h = record {
   rays = Every-append IsRay out r h.rays h.rests.0;
   rises = h.first;
   terms = λ p d k. ray_coef-append out r p d k ∙ none (ray_coef out p d k) (ray_coef r p d k) _ (h.terms p d k);
-  loads = λ m l x y. let q = h.loads m l x y in Every-append _ out r q.0 (Every-implies (λ w. load n w ≤ m) (λ w. load n w ≤ m + l) r (λ w z. omega (arith, z)) q.1);
+  loads = λ m l x y. let q = h.loads m l x y in Every-append _ out r q.0 (Every-implies (λ w. load n w ≤ m w.dir) (λ w. load n w ≤ m w.dir + l w.dir) r (λ w z. omega (arith, z)) q.1);
 }
   where
     none : (o r t : ℤ) → o +ℤ (r +ℤ pos 0) ≡ t → o +ℤ r ≡ t
@@ -192,7 +195,7 @@ merged-swapped n a b out h = record {
   rays = h.rays;
   rises = h.rises;
   terms = λ p d k. h.terms p d k ∙ ring ints_ring (ray_coef a p d k ∷ ray_coef b p d k ∷ []) (Y :+ X) (X :+ Y) refl;
-  loads = λ m l x y. Every-implies (λ w. load n w ≤ l + m) (λ w. load n w ≤ m + l) out (λ w z. omega (arith, z)) (h.loads l m y x);
+  loads = λ m l x y. Every-implies (λ w. load n w ≤ l w.dir + m w.dir) (λ w. load n w ≤ m w.dir + l w.dir) out (λ w z. omega (arith, z)) (h.loads l m y x);
 }
 
 pub ended : (n : ℕ) (a b out r s : List Wall) → (r ≡ []) ⊎ (s ≡ []) → Merging n a b out r s → Merged n a b ((out ++ r) ++ s)

@@ -1,29 +1,33 @@
 -- Rays from one point that have given terms.
 --     HasTerms n p f ws        the rays ws start at p and have the terms of f
-use Rattle.std.proofs.Common.{◌≡◌, ◌≢◌, ℕ, ◌+◌, ◌≤◌, ◌<◌, ◌^◌, refl, sym, subst, ap, ◌∙◌, Bool, true, false, cond, List, [], ◌∷◌, ◌++◌, length, take, drop, arith, inl, inr}
+use Rattle.std.proofs.Common.{◌≡◌, ◌≢◌, ℕ, ◌+◌, ◌≤◌, refl, sym, subst, ap, ◌∙◌, Bool, true, false, cond, List, [], ◌∷◌, ◌++◌, take, drop, arith, inl, inr}
 use Rattle.std.specs.Prelude.{ℤ, pos, ◌+ℤ◌, ◌&&◌, IsTrue}
 use Rattle.scattering.specs.Collections.{In, Every, EveryPair}
-use Rattle.scattering.specs.Series.{Exp, Key, Term, Sum, coef, coef_at, rest, key_eq, exp_eq, mass_to, IsMultiple}
+use Rattle.scattering.specs.Series.{Exp, Key, Term, Sum, coef, coef_at, rest, key_eq, exp_eq, one, mass_to, IsMultiple}
 use Rattle.scattering.specs.Plane.{Point, IsDirection, point_eq}
 use Rattle.scattering.specs.Wall.{Wall, IsWall, is_live}
 use Rattle.scattering.specs.Completion.{IsReduced}
 use Rattle.scattering.specs.Correction.{ray_coef}
-use Rattle.scattering.proofs.Lists.{Every-at, Every-from_In, Every-left, Every-right, In-right}
+use Rattle.scattering.proofs.Lists.{Every-at, Every-from_In, Every-implies, Every-left, Every-right, In-right}
 use Rattle.scattering.proofs.Keys.{key_eq-same, exp_eq-refl, point_eq-same}
+use Rattle.scattering.proofs.Pairing.{coef-append}
+use Rattle.scattering.proofs.Determined.{coef-find}
 use Rattle.plane_theory.proofs.Directions.{same-direction}
-use Rattle.plane_theory.proofs.StrictOrder.{coef-find}
 use Rattle.correction_theory.proofs.RayCoefficients.{ray_coef-own}
 use Rattle.correction_theory.proofs.ReducedRays.{live-term, rest-own, rest-nonzero, rest-term}
-use Rattle.trunc_series.proofs.Coefficients.{coef-append, add-zero}
-use Rattle.trunc_series.proofs.Products.{mass-append}
+use Rattle.trunc_series.proofs.Coefficients.{add-zero}
 use Rattle.trunc_series.specs.declared.key.Key.{Key as CodeKey}
-use Rattle.trunc_series.specs.Shown.{term_of, sum_of}
-use Rattle.trunc_series.proofs.Terms.{at, sum_of-halves}
+use Rattle.trunc_series.specs.Shown.{sum_of}
+use Rattle.trunc_series.proofs.Terms.{sum_of-halves}
 use Rattle.scatter_diagram.specs.declared.wall.Wall.{Wall as CodeWall}
 use Rattle.scatter_diagram.specs.Shown.{walls_of}
 use Rattle.scatter_diagram.specs.Listed.{AreRays}
 use Rattle.scatter_diagram.proofs.Walls.{are-walls}
-use Rattle.ray_merge.specs.Rays.{load, IsRayOf, IsJoinable, AreJoinable, AreLoads}
+use Rattle.limits.specs.Limits.{largest_mass}
+use Rattle.ray_merge.specs.Additions.{IsLightAlong, terms_along}
+use Rattle.ray_merge.specs.Rays.{load, mass_along, IsRayOf, IsJoinable, AreJoinable, AreLoads}
+use Rattle.ray_merge.proofs.Along.{mass_along-append, mass_along-halves, mass_along-one}
+use Rattle.ray_merge.proofs.Functions.{mass-one}
 
 -- what rays have at places and positive multiples of their directions
 abbrev pub CountsTerms : Point → Sum → List Wall → Type 0
@@ -33,7 +37,7 @@ pub record HasTerms (n : ℕ) (p : Point) (f : Sum) (ws : List Wall) : Type 0 wh
   pub walls : Every (IsWall n) ws
   pub reduced : IsReduced ws
   pub terms : CountsTerms p f ws
-  pub loads : AreLoads n (mass_to n f) ws
+  pub loads : AreLoads n (mass_along n f) ws
 
 module _ (n : ℕ) (p : Point) (f : Sum) (ws : List Wall) (h : HasTerms n p f ws) (r : Wall) (i : In r ws) where
   is-wall : IsWall n r
@@ -74,7 +78,7 @@ one-term n p t w iw h = record {
   walls = (iw, tt);
   reduced = record { live = (h.live, tt); rises = (tt, tt) };
   terms = λ q d k id mk. add-zero (cond (point_eq w.at q && exp_eq w.dir d) (coef (rest w.function) k) (pos 0)) ∙ counted q d k id mk ∙ ap (λ c. cond (point_eq p q) c (pos 0)) (sym (add-zero (coef_at k t)));
-  loads = (h.load, tt);
+  loads = (let e = mass_along-one n t w.dir iw.direction h.dir in let l = h.load in omega (arith, e, l), tt);
 }
   where
     self : (x y : Exp) → x ≡ y → exp_eq x y ≡ true
@@ -106,18 +110,20 @@ apart [] g d t u i j = absurd i
 apart (v ∷ f) g d t u (inl e) j = subst (λ (x : Term). x.0 ≢ u.0) (sym e) (Every-at (λ (x : Term). v.0 ≢ x.0) (f ++ g) u d.0 (In-right f g u j))
 apart (v ∷ f) g d t u (inr i) j = apart f g d.1 t u i j
 
-pub joinable : (n : ℕ) (p : Point) (f g : Sum) (rs ss : List Wall) → HasTerms n p f rs → HasTerms n p g ss → EveryPair (λ t u. t.0 ≢ u.0) (f ++ g) → mass_to n (f ++ g) ≤ 2 ^ 126 → AreJoinable n rs ss
-joinable n p f g rs ss hr hs d m = Every-from_In _ rs (λ r i. Every-from_In _ ss (λ s j at dir. pair r s i j))
+pub joinable : (n : ℕ) (p : Point) (f g : Sum) (rs ss : List Wall) → HasTerms n p f rs → HasTerms n p g ss → EveryPair (λ t u. t.0 ≢ u.0) (f ++ g) → IsLightAlong n (f ++ g) → AreJoinable n rs ss
+joinable n p f g rs ss hr hs d m = Every-from_In _ rs (λ r i. Every-from_In _ ss (λ s j at dir. pair r s i j dir))
   where
-    pair : (r s : Wall) → In r rs → In s ss → IsJoinable n r s
-    pair r s i j = record {
+    pair : (r s : Wall) → In r rs → In s ss → r.dir ≡ s.dir → IsJoinable n r s
+    pair r s i j dir = record {
       distinct = Every-from_In _ (rest r.function) (λ t x. Every-from_In _ (rest s.function) (λ u y e.
           let v = key-in n p f rs hr r i t x in let w = key-in n p g ss hs s j u y in apart f g d v.0 w.0 v.1 w.1 (v.2 ∙ e ∙ sym w.2)));
       light =
-          let a = Every-at (λ w. load n w ≤ mass_to n f) rs r hr.loads i in
-          let b = Every-at (λ w. load n w ≤ mass_to n g) ss s hs.loads j in
-          let c = mass-append n f g in
-          omega (arith, a, b, c, m);
+          let a = Every-at (λ w. load n w ≤ mass_along n f w.dir) rs r hr.loads i in
+          let b = subst (λ (d : Exp). load n s ≤ mass_along n g d) (sym dir) (Every-at (λ w. load n w ≤ mass_along n g w.dir) ss s hs.loads j) in
+          let c = mass_along-append n f g r.dir in
+          let e = mass-one n (terms_along r.dir (f ++ g)) in
+          let l = m r.dir (Every-at (IsWall n) rs r hr.walls i).direction in
+          omega (arith, a, b, c, e, l);
     }
 
 pub both-terms : (p : Point) (f g : Sum) (rs ss ws : List Wall) → CountsTerms p f rs → CountsTerms p g ss → ((q : Point) (d : Exp) (k : Key) → ray_coef ws q d k ≡ ray_coef rs q d k +ℤ ray_coef ss q d k) → CountsTerms p (f ++ g) ws
@@ -131,14 +137,8 @@ both-terms p f g rs ss ws hr hs h q d k id mk =
 
 -- ---- the program's lists
 
-pub has-terms : (n : ℕ) (p : Point) (f : Sum) (ws : List CodeWall) → AreRays n ws → CountsTerms p f (walls_of ws) → AreLoads n (mass_to n f) (walls_of ws) → HasTerms n p f (walls_of ws)
+pub has-terms : (n : ℕ) (p : Point) (f : Sum) (ws : List CodeWall) → AreRays n ws → CountsTerms p f (walls_of ws) → AreLoads n (mass_along n f) (walls_of ws) → HasTerms n p f (walls_of ws)
 has-terms n p f ws r t l = record { walls = are-walls n ws r.order; reduced = r.reduced; terms = t; loads = l }
-
--- a list of one term
-pub single : (ts : List (CodeKey × ℤ)) → 1 ≤ length ts → length ts < 2 → sum_of ts ≡ term_of (at ts 0) ∷ []
-single [] l m = absurd (omega (arith, l))
-single (t ∷ []) l m = refl
-single (t ∷ u ∷ ts) l m = absurd (omega (arith, m))
 
 -- of both halves
 pub halves-each : (P : Term → Type 0) (ts : List (CodeKey × ℤ)) (i : ℕ) → Every P (sum_of ts) → Every P (sum_of (take i ts)) × Every P (sum_of (drop i ts))
@@ -153,5 +153,13 @@ halves-distinct (t ∷ f) g d = let r = halves-distinct f g d.1 in ((Every-left 
 pub halves-apart : (ts : List (CodeKey × ℤ)) (i : ℕ) → EveryPair (λ t u. t.0 ≢ u.0) (sum_of ts) → EveryPair (λ t u. t.0 ≢ u.0) (sum_of (take i ts)) × EveryPair (λ t u. t.0 ≢ u.0) (sum_of (drop i ts))
 halves-apart ts i h = halves-distinct (sum_of (take i ts)) (sum_of (drop i ts)) (subst (EveryPair (λ (t u : Term). t.0 ≢ u.0)) (sum_of-halves ts i) h)
 
-pub halves-mass : (n : ℕ) (ts : List (CodeKey × ℤ)) (i : ℕ) → mass_to n (sum_of ts) ≡ mass_to n (sum_of (take i ts)) + mass_to n (sum_of (drop i ts))
-halves-mass n ts i = ap (mass_to n) (sum_of-halves ts i) ∙ mass-append n (sum_of (take i ts)) (sum_of (drop i ts))
+-- what bounds the loads of both halves
+pub loads-of-halves : (n : ℕ) (ts : List (CodeKey × ℤ)) (i : ℕ) (ws : List Wall) → AreLoads n (λ d. mass_along n (sum_of (take i ts)) d + mass_along n (sum_of (drop i ts)) d) ws → AreLoads n (mass_along n (sum_of ts)) ws
+loads-of-halves n ts i ws h = Every-implies _ (λ w. load n w ≤ mass_along n (sum_of ts) w.dir) ws (λ w l. let e = mass_along-halves n ts i w.dir in omega (arith, e, l)) h
+
+-- what is light together is so apart
+pub halves-light : (n : ℕ) (ts : List (CodeKey × ℤ)) (i : ℕ) → IsLightAlong n (sum_of ts) → IsLightAlong n (sum_of (take i ts)) × IsLightAlong n (sum_of (drop i ts))
+halves-light n ts i h = (λ d id. part (sum_of (take i ts)) d id (let e = mass_along-halves n ts i d in omega (arith, e)), λ d id. part (sum_of (drop i ts)) d id (let e = mass_along-halves n ts i d in omega (arith, e)))
+  where
+    part : (f : Sum) (d : Exp) → IsDirection d → mass_along n f d ≤ mass_along n (sum_of ts) d → mass_to n (one ++ terms_along d f) ≤ largest_mass
+    part f d id l = let a = mass-one n (terms_along d f) in let b = mass-one n (terms_along d (sum_of ts)) in let c = h d id in omega (arith, a, b, c, l)

@@ -1,5 +1,5 @@
 -- The values that a correction adds: at its keys, none 0, no heavier than its whole values.
-use Rattle.std.proofs.Common.{◌≡◌, ◌≢◌, ℕ, zero, suc, ◌+◌, ◌≤◌, ◌<◌, ◌^◌, refl, sym, subst, ap, ◌∙◌, Bool, true, false, List, [], ◌∷◌, ◌++◌, map, length, get_or, take, arith, inl, inr}
+use Rattle.std.proofs.Common.{◌≡◌, ◌≢◌, ℕ, zero, suc, ◌+◌, ◌≤◌, ◌<◌, refl, sym, subst, ap, ◌∙◌, Bool, true, false, List, [], ◌∷◌, ◌++◌, map, length, get_or, take, arith, inl, inr}
 use Rattle.std.specs.Prelude.{ℤ, pos, neg_ℤ, ◌*ℤ◌, ◌≤ℤ◌, nat_abs, nat_le}
 use Rattle.std.specs.Int.{IsGcd}
 use Rattle.std.specs.List.{sum_by}
@@ -10,43 +10,19 @@ use Rattle.std.proofs.lemmas.List.Sums.{sum_by-cons}
 use Rattle.sum_algebra.proofs.Ring.{minus, nought, ring}
 use Rattle.sum_algebra.proofs.Ring as E
 use Rattle.sum_algebra.proofs.IntegerRing.{ints_ring, ◌:+◌, ◌:*◌, X, Y}
+use Rattle.limits.specs.Limits.{largest_weight}
 use Rattle.scattering.specs.Collections.{In, Every, EveryPair}
 use Rattle.scattering.specs.Series.{Key, Term, Sum, degree, coef, key_eq, origin, mass_to}
-use Rattle.scattering.specs.Correction.{Ratio, Lie, ratio_at, IsWhole}
+use Rattle.scattering.specs.Correction.{Ratio, Lie, ratio_at}
 use Rattle.scattering.proofs.Lists.{Every-implies, map-append}
 use Rattle.scattering.proofs.Keys.{key_eq-same}
+use Rattle.scattering.proofs.Coefficients.{coef-none}
 use Rattle.plane_theory.proofs.Directions.{as_multiple, zero-factor, positive-not}
-use Rattle.plane_theory.proofs.StrictOrder.{coef-none}
 use Rattle.frac_128.specs.declared.Fraction.{Fraction}
 use Rattle.trunc_series.specs.declared.key.Key.{Key as CodeKey}
 use Rattle.vertex_lie.specs.Shown.{coefficient_of, lie_of}
 use Rattle.weight_theory.specs.Laws.{IsWholeValue, AreWhole}
-use Rattle.ray_merge.specs.Additions.{IsAddedValue, AreAdded, IsTermOf, IsAddable, IsTame, IsTameKey, IsLight}
-
--- ---- whole values
-
--- a term's whole value is bounded with those of all terms
-pub whole-with : (h : Lie) → Every IsWhole h → Every (λ t. t.0.exp ≢ origin) h → (t : Key × Ratio) → In t h → (v : ℤ) → IsWholeValue t v → (vs : List ℤ) × AreWhole h vs × (nat_abs v ≤ sum_by nat_abs vs)
-whole-with [] w o t i v x = absurd i
-whole-with (u ∷ h) w o t (inl e) v x =
-    let r = all h w.1 o.1 in
-    let s = sum_by-cons nat_abs v r.0 in
-    (v ∷ r.0, (subst (λ (t : Key × Ratio). IsWholeValue t v) e x, r.1), omega (arith, s))
-  where
-    all : (h : Lie) → Every IsWhole h → Every (λ t. t.0.exp ≢ origin) h → (vs : List ℤ) × AreWhole h vs
-    all [] w o = ([], tt)
-    all (u ∷ h) w o =
-        let m = as_multiple u.0.exp o.0 in
-        let x = w.0 m.g m.gcd in
-        let r = all h w.1 o.1 in
-        (x.0 ∷ r.0, ((m.g, m.gcd, x.1), r.1))
-whole-with (u ∷ h) w o t (inr i) v x =
-    let r = whole-with h w.1 o.1 t i v x in
-    let m = as_multiple u.0.exp o.0 in
-    let y = w.0 m.g m.gcd in
-    let s = sum_by-cons nat_abs y.0 r.0 in
-    let l = r.2 in
-    (y.0 ∷ r.0, ((m.g, m.gcd, y.1), r.1), omega (arith, s, l))
+use Rattle.ray_merge.specs.Additions.{IsAddedValue, AreAdded, IsRayTerm, IsAddable, IsTameElement, IsTameKey, IsLight}
 
 -- ---- one term after another
 
@@ -96,18 +72,18 @@ added-distinct (t ∷ h) [] a d = absurd a
 added-distinct (t ∷ h) (u ∷ f) a d = (added-keys (λ k. u.0 ≢ k) h f a.2 (subst (λ (x : Key). Every (λ s. x ≢ s.0) h) (sym a.0) d.0), added-distinct h f a.2 d.1)
 
 -- the whole values are the values with their signs turned
+turned-value : (t : Key × Ratio) (v : ℤ) → IsAddedValue t v → IsWholeValue t (neg_ℤ v)
+turned-value t v a = (
+  a.0,
+  a.1,
+  ring ints_ring (v ∷ t.1.den ∷ []) (minus X :* Y) (minus (X :* Y)) refl ∙ ap neg_ℤ a.2 ∙ ring ints_ring (pos a.0 ∷ t.1.num ∷ []) (minus (minus (X :* Y))) (Y :* X) refl,
+)
+
 pub turned-whole : (h : Lie) (f : Sum) → AreAdded h f → AreWhole h (map (λ u. neg_ℤ u.1) f)
 turned-whole [] [] a = tt
 turned-whole [] (u ∷ f) a = absurd a
 turned-whole (t ∷ h) [] a = absurd a
-turned-whole (t ∷ h) (u ∷ f) a = (
-  (
-    a.1.0,
-    a.1.1,
-    ring ints_ring (u.1 ∷ t.1.den ∷ []) (minus X :* Y) (minus (X :* Y)) refl ∙ ap neg_ℤ a.1.2 ∙ ring ints_ring (pos a.1.0 ∷ t.1.num ∷ []) (minus (minus (X :* Y))) (Y :* X) refl,
-  ),
-  turned-whole h f a.2,
-)
+turned-whole (t ∷ h) (u ∷ f) a = (turned-value t u.1 a.1, turned-whole h f a.2)
 
 pub mass-turned : (n : ℕ) (f : Sum) → Every (λ t. degree t.0 ≡ n) f → mass_to n f ≡ sum_by nat_abs (map (λ u. neg_ℤ u.1) f)
 mass-turned n [] d = refl
@@ -122,15 +98,22 @@ mass-turned n (u ∷ f) d =
     absolute : (x : ℤ) → nat_abs (neg_ℤ x) ≡ nat_abs x
     absolute x = omega (arith, ints)
 
-pub added-light : (n : ℕ) (h : Lie) (f : Sum) → AreAdded h f → Every (λ t. degree t.0 ≡ n) f → IsLight h → mass_to n f ≤ 2 ^ 126
-added-light n h f a d l = let e = mass-turned n f d in let b = l (map (λ (u : Term). neg_ℤ u.1) f) (turned-whole h f a) in omega (arith, e, b)
+-- what bounds the sum of the whole values bounds the mass of what is added
+pub added-mass : (n m : ℕ) (h : Lie) (f : Sum) → AreAdded h f → Every (λ t. degree t.0 ≡ n) f → ((vs : List ℤ) → AreWhole h vs → sum_by nat_abs vs ≤ m) → mass_to n f ≤ m
+added-mass n m h f a d l = let e = mass-turned n f d in let b = l (map (λ (u : Term). neg_ℤ u.1) f) (turned-whole h f a) in omega (arith, e, b)
 
-pub added-each : (n : ℕ) (h : Lie) (f : Sum) → AreAdded h f → IsAddable n h → IsTame n h → Every (λ u. u.1 ≢ pos 0) f → Every (IsTermOf n) f
-added-each n h f a ad t z = each f z (added-keys (λ k. degree k ≡ n) h f a (Every-implies _ _ h (λ t q. q.0) ad.degrees)) (added-keys (λ k. k.exp ≢ origin) h f a (Every-implies _ _ h (λ t q. q.1) ad.degrees)) (added-keys (IsTameKey n) h f a t)
+pub added-small : (h : Lie) (f : Sum) → AreAdded h f → IsLight h → Every (λ u. nat_abs u.1 ≤ largest_weight) f
+added-small [] [] a l = tt
+added-small [] (u ∷ f) a l = absurd a
+added-small (t ∷ h) [] a l = absurd a
+added-small (t ∷ h) (u ∷ f) a l = ((let s = l.0 (neg_ℤ u.1) (turned-value t u.1 a.1) in omega (arith, ints, s)), added-small h f a.2 l.1)
+
+pub added-each : (n : ℕ) (h : Lie) (f : Sum) → AreAdded h f → IsAddable n h → IsTameElement n h → Every (λ u. u.1 ≢ pos 0) f → IsLight h → Every (IsRayTerm n) f
+added-each n h f a ad t z l = each f z (added-small h f a l) (added-keys (λ k. degree k ≡ n) h f a (Every-implies _ _ h (λ t q. q.0) ad.degrees)) (added-keys (λ k. k.exp ≢ origin) h f a (Every-implies _ _ h (λ t q. q.1) ad.degrees)) (added-keys (IsTameKey n) h f a t)
   where
-    each : (f : Sum) → Every (λ u. u.1 ≢ pos 0) f → Every (λ u. degree u.0 ≡ n) f → Every (λ u. u.0.exp ≢ origin) f → Every (λ u. IsTameKey n u.0) f → Every (IsTermOf n) f
-    each [] z d o t = tt
-    each (u ∷ f) z d o t = (record { nonzero = z.0; degree = d.0; exponent = o.0; tame = t.0 }, each f z.1 d.1 o.1 t.1)
+    each : (f : Sum) → Every (λ u. u.1 ≢ pos 0) f → Every (λ u. nat_abs u.1 ≤ largest_weight) f → Every (λ u. degree u.0 ≡ n) f → Every (λ u. u.0.exp ≢ origin) f → Every (λ u. IsTameKey n u.0) f → Every (IsRayTerm n) f
+    each [] z s d o t = tt
+    each (u ∷ f) z s d o t = (record { nonzero = z.0; small = s.0; degree = d.0; exponent = o.0; tame = t.0 }, each f z.1 s.1 d.1 o.1 t.1)
 
 -- the coefficient at a key is the value there
 pub added-values : (h : Lie) (f : Sum) → AreAdded h f → EveryPair (λ t u. t.0 ≢ u.0) h → (k : Key) → k.exp ≢ origin

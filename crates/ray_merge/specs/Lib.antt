@@ -1,4 +1,3 @@
 pub mod Additions
 pub mod Rays
 pub mod Answer
-pub mod Worked

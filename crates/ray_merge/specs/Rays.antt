@@ -1,22 +1,25 @@
 -- Rays as they are merged.
 --     ray_order r s            how two rays stand, by start and then direction
 --     load n w                 the mass of a wall's terms other than 1
---     HasNewTerms n w          w has only terms of degree n besides 1, and is light
+--     HasNewTerms n cs w       w has only terms of degree n besides 1, which a correction of cs adds
 --     IsJoinable n r s         rays of one direction with no common key but 1, light enough together
 --     IsJoined n r s w         w is the ray of r with the terms of s as well
 --     IsRayOf n p t w          w is the ray from p with 1 and the term t
 --     AreRaysTo n ws           outgoing rays with functions of order n at most, reduced
---     AreLoads n m ws          none of the loads is above m
-use Rattle.std.specs.Prelude.{◌≡◌, ◌≢◌, ℕ, ◌+◌, ◌≤◌, ◌<◌, ◌^◌, cond, IsTrue, ◌+ℤ◌, List, [], ◌∷◌}
+--     AreLoads n m ws          none of the loads is above what m has for its direction
+use Rattle.std.specs.Prelude.{◌≡◌, ◌≢◌, ℕ, ◌+◌, ◌≤◌, ◌<◌, cond, IsTrue, ◌+ℤ◌, List, [], ◌∷◌}
 use Rattle.std.specs.declared.cmp.Ordering.{Ordering}
 use Rattle.std.specs.declared.cmp.Ordering.TheVariants.{Less, Equal, Greater}
-use Rattle.scattering.specs.Collections.{Every}
-use Rattle.scattering.specs.Series.{Exp, Key, Term, degree, coef, coef_at, rest, mass_to, exp_before, IsMultiple}
+use Rattle.limits.specs.Limits.{largest_mass}
+use Rattle.scattering.specs.Collections.{In, Every}
+use Rattle.scattering.specs.Series.{Exp, Key, Term, Sum, degree, coef, coef_at, rest, mass_to, exp_before, IsMultiple}
 use Rattle.scattering.specs.Plane.{Point}
 use Rattle.scattering.specs.Wall.{Outgoing, Wall, is_live}
 use Rattle.scattering.specs.Completion.{ray_before, IsReduced}
+use Rattle.scattering.specs.Correction.{Lie, Corrections}
 use Rattle.scatter_diagram.specs.declared.wall.Wall.{Wall as CodeWall}
 use Rattle.scatter_diagram.specs.Shown.{walls_of}
+use Rattle.ray_merge.specs.Additions.{AreAdded, terms_along}
 
 abbrev pub exp_order : Exp → Exp → Ordering
 exp_order d e = cond (exp_before d e) Less (cond (exp_before e d) Greater Equal)
@@ -27,17 +30,24 @@ ray_order r s = cond (ray_before r s) Less (cond (ray_before s r) Greater Equal)
 abbrev pub load : ℕ → Wall → ℕ
 load n w = mass_to n (rest w.function)
 
-abbrev pub AreLoads : ℕ → ℕ → List Wall → Type 0
-AreLoads n m ws = Every (λ w. load n w ≤ m) ws
+abbrev pub AreLoads : ℕ → (Exp → ℕ) → List Wall → Type 0
+AreLoads n m ws = Every (λ w. load n w ≤ m w.dir) ws
 
--- all terms but 1 are of degree n, and their mass is at most 2^126
-pub record HasNewTerms (n : ℕ) (w : Wall) : Type 0 where
+-- what one list of rays has of two others
+abbrev pub AreLoadsOfBoth : ℕ → List Wall → List Wall → List Wall → Type 0
+AreLoadsOfBoth n a b ws = (m l : Exp → ℕ) → AreLoads n m a → AreLoads n l b → AreLoads n (λ d. m d + l d) ws
+
+abbrev pub mass_along : ℕ → Sum → Exp → ℕ
+mass_along n f d = mass_to n (terms_along d f)
+
+-- all terms but 1 are of degree n, and no heavier than those that a correction adds along w
+pub record HasNewTerms (n : ℕ) (cs : Corrections) (w : Wall) : Type 0 where
   pub degrees : Every (λ t. degree t.0 ≡ n) (rest w.function)
-  pub light : load n w ≤ 2 ^ 126
+  pub source : (c : Point × Lie) × In c cs × (w.at ≡ c.0) × ((f : Sum) × AreAdded c.1 f × (load n w ≤ mass_along n f w.dir))
 
 pub record IsJoinable (n : ℕ) (r s : Wall) : Type 0 where
   pub distinct : Every (λ t. Every (λ u. t.0 ≢ u.0) (rest s.function)) (rest r.function)
-  pub light : load n r + load n s < 2 ^ 127
+  pub light : load n r + load n s < largest_mass
 
 pub record IsJoined (n : ℕ) (r s w : Wall) : Type 0 where
   pub kind : w.kind ≡ r.kind

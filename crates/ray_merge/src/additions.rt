@@ -1,6 +1,7 @@
 // The terms that a correction adds to rays.
 
-ghost use Rattle.std.specs.Prelude.{◌≡◌, ◌≢◌, ◌≤◌, ◌^◌, ℤ, pos, IfOk, nat_abs};
+ghost use Rattle.std.specs.Prelude.{◌≡◌, ◌≢◌, ◌≤◌, ℤ, pos, IfOk, nat_abs};
+ghost use Rattle.limits.specs.Limits.{largest_weight};
 ghost use Rattle.scattering.specs.Collections.{Every};
 ghost use Rattle.scattering.specs.Series.{origin};
 ghost use Rattle.scattering.specs.Correction.{IsWhole};
@@ -18,7 +19,7 @@ use vertex_lie::LieElement;
 fn added_value(term: &(Key, Fraction)) -> i128
     requires exponent { (coefficient_of term.now).0.exp ≢ origin }
     requires whole { IsWhole (coefficient_of term.now) }
-    requires small { (v : ℤ) → IsWholeValue (coefficient_of term.now) v → nat_abs v ≤ 2 ^ 126 }
+    requires small { (v : ℤ) → IsWholeValue (coefficient_of term.now) v → nat_abs v ≤ largest_weight }
     ensures { IsAddedValue (coefficient_of term.now) result }
 {
     let (a, b) = (term.0.exp.a, term.0.exp.b);

@@ -10,6 +10,3 @@ mod place;
 mod ray;
 
 pub use merge::merged;
-
-#[cfg(test)]
-mod tests;

@@ -1,30 +1,29 @@
 // Lists of rays, merged, and the diagram of the next order.
 
-ghost use Rattle.std.specs.Prelude.{◌≡◌, ◌≢◌, ◌++◌, ◌+◌, ◌≤◌, ◌^◌, ℕ, [], ◌∷◌, map, cond, pos, ◌+ℤ◌, IfOk, OnOk, MatchResult};
+ghost use Rattle.std.specs.Prelude.{◌≡◌, ◌≢◌, ◌++◌, ◌+◌, ◌≤◌, [], ◌∷◌, map, cond, pos, ◌+ℤ◌, IfOk, OnOk, MatchResult};
+ghost use Rattle.limits.specs.Limits.{highest_order};
 ghost use Rattle.scattering.specs.Collections.{Every, EveryPair, In};
-ghost use Rattle.scattering.specs.Series.{Exp, Key as SeriesKey, coef, mass_to, IsMultiple};
+ghost use Rattle.scattering.specs.Series.{Exp, Key as SeriesKey, Sum, coef, IsMultiple};
 ghost use Rattle.scattering.specs.Plane.{Point as PlanePoint, IsDirection, point_eq};
 ghost use Rattle.scattering.specs.Correction.{ray_coef, IsAdded, IsMerged, AreMergeable};
 ghost use Rattle.plane_geom.specs.Shown.{point_of};
 ghost use Rattle.trunc_series.specs.Shown.{sum_of};
 ghost use Rattle.scatter_diagram.specs.Shown.{walls_of};
 ghost use Rattle.scatter_diagram.specs.Listed.{AreOfOrder, AreLines, AreRays};
-ghost use Rattle.ray_merge.specs.Additions.{IsTermOf, IsAddable, IsTame, IsLight, corrections_of};
-ghost use Rattle.ray_merge.specs.Rays.{AreRaysTo, AreJoinable, AreLoads, HasNewTerms};
-ghost use Rattle.ray_merge.specs.Answer.{AreLight, AreTame, AreLightStarts, IsMergedTo, IsStoppedAt};
+ghost use Rattle.ray_merge.specs.Additions.{AreAdded, IsRayTerm, IsAddable, IsTameElement, IsLight, IsLightAlong, corrections_of};
+ghost use Rattle.ray_merge.specs.Rays.{AreRaysTo, AreJoinable, AreLoads, AreLoadsOfBoth, HasNewTerms, mass_along};
+ghost use Rattle.ray_merge.specs.Answer.{AreLight, AreTame, StayWithin, IsMergedTo, IsStoppedAt};
 
 use crate::additions::added_terms;
 use crate::place::compare_places;
 use crate::ray::{joined, raised, ray_of};
+use limits::MOST_WALLS;
 use plane_geom::Point;
 use scatter_diagram::{Diagram, Initial, Stop, StopCause, Wall, cut_walls};
 use std::alloc::{AllocError, Global};
 use std::cmp::Ordering;
 use trunc_series::Key;
 use vertex_lie::LieElement;
-
-/// The most walls of a diagram.
-const MOST_WALLS: usize = 8192;
 
 /// Appends the rays, read at a higher order.
 fn push_raised(
@@ -33,9 +32,10 @@ fn push_raised(
     out: &mut Vec<Wall>,
     rays: &[Wall],
 ) -> Result<(), AllocError>
-    requires order { order ≤ 24 }
+    requires order { order ≤ highest_order }
     requires lower { Every (λ w. w.function.order ≤ order) rays.now }
-    ensures walls { OnOk result (walls_of out.new.items ≡ walls_of out.old.items ++ walls_of rays.now) }
+    ensures walls { OnOk result
+        (walls_of out.new.items ≡ walls_of out.old.items ++ walls_of rays.now) }
     ensures order { OnOk result (AreOfOrder order out.old.items → AreOfOrder order out.new.items) }
 {
     for r in rays {
@@ -46,13 +46,16 @@ fn push_raised(
 
 /// Two lists of rays in order as one, where rays of one start and direction are joined.
 fn merged_rays(alloc: Global, order: u32, a: &[Wall], b: &[Wall]) -> Result<Vec<Wall>, AllocError>
-    requires order { order ≤ 24 }
+    requires order { order ≤ highest_order }
     requires left { AreRaysTo order a.now }
     requires right { AreRaysTo order b.now }
     requires joinable { AreJoinable order (walls_of a.now) (walls_of b.now) }
     ensures rays { IfOk result (λ r. AreRays order r.items) }
-    ensures terms { IfOk result (λ r. (p : PlanePoint) (d : Exp) (k : SeriesKey) → ray_coef (walls_of r.items) p d k ≡ ray_coef (walls_of a.now) p d k +ℤ ray_coef (walls_of b.now) p d k) }
-    ensures loads { IfOk result (λ r. (m l : ℕ) → AreLoads order m (walls_of a.now) → AreLoads order l (walls_of b.now) → AreLoads order (m + l) (walls_of r.items)) }
+    ensures terms { IfOk result
+        (λ r. (p : PlanePoint) (d : Exp) (k : SeriesKey) → ray_coef (walls_of r.items) p d k ≡
+        ray_coef (walls_of a.now) p d k +ℤ ray_coef (walls_of b.now) p d k) }
+    ensures loads { IfOk result
+        (λ r. AreLoadsOfBoth order (walls_of a.now) (walls_of b.now) (walls_of r.items)) }
 {
     let mut out = Vec::with_capacity(alloc, a.len() + b.len())?;
     let mut i = 0;
@@ -89,13 +92,17 @@ fn rays_of(
     terms: &[(Key, i128)],
 ) -> Result<Vec<Wall>, AllocError>
     requires some { 1 ≤ order }
-    requires order { order ≤ 24 }
-    requires each { Every (IsTermOf order) (sum_of terms.now) }
+    requires order { order ≤ highest_order }
+    requires each { Every (IsRayTerm order) (sum_of terms.now) }
     requires distinct { EveryPair (λ t u. t.0 ≢ u.0) (sum_of terms.now) }
-    requires light { mass_to order (sum_of terms.now) ≤ 2 ^ 126 }
+    requires light { IsLightAlong order (sum_of terms.now) }
     ensures rays { IfOk result (λ r. AreRays order r.items) }
-    ensures terms { IfOk result (λ r. (p : PlanePoint) (d : Exp) (k : SeriesKey) → IsDirection d → IsMultiple d k.exp → ray_coef (walls_of r.items) p d k ≡ cond (point_eq (point_of at.now) p) (coef (sum_of terms.now) k) (pos 0)) }
-    ensures loads { IfOk result (λ r. AreLoads order (mass_to order (sum_of terms.now)) (walls_of r.items)) }
+    ensures terms { IfOk result
+        (λ r. (p : PlanePoint) (d : Exp) (k : SeriesKey) → IsDirection d → IsMultiple d k.exp →
+        ray_coef (walls_of r.items) p d k ≡ cond (point_eq (point_of at.now) p)
+        (coef (sum_of terms.now) k) (pos 0)) }
+    ensures loads { IfOk result
+        (λ r. AreLoads order (mass_along order (sum_of terms.now)) (walls_of r.items)) }
 {
     match terms {
         [] => Ok(Vec::new(alloc)),
@@ -116,14 +123,19 @@ fn rays_at(
     correction: &(Point, LieElement),
 ) -> Result<Vec<Wall>, AllocError>
     requires some { 1 ≤ order }
-    requires order { order ≤ 24 }
+    requires order { order ≤ highest_order }
     requires addable { IsAddable order correction.now.1 }
-    requires tame { IsTame order correction.now.1 }
+    requires tame { IsTameElement order correction.now.1 }
     requires light { IsLight correction.now.1 }
+    requires within { (f : Sum) → AreAdded correction.now.1 f → IsLightAlong order f }
     ensures rays { IfOk result (λ r. AreRays order r.items) }
-    ensures starts { IfOk result (λ r. Every (λ w. w.at ≡ point_of correction.now.0) (walls_of r.items)) }
-    ensures added { IfOk result (λ r. (p : PlanePoint) (d : Exp) (k : SeriesKey) → IsDirection d → IsMultiple d k.exp → IsAdded (corrections_of (correction.now ∷ [])) p k (ray_coef (walls_of r.items) p d k)) }
-    ensures terms { IfOk result (λ r. Every (HasNewTerms order) (walls_of r.items)) }
+    ensures starts { IfOk result
+        (λ r. Every (λ w. w.at ≡ point_of correction.now.0) (walls_of r.items)) }
+    ensures added { IfOk result
+        (λ r. (p : PlanePoint) (d : Exp) (k : SeriesKey) → IsDirection d → IsMultiple d k.exp →
+        IsAdded (corrections_of (correction.now ∷ [])) p k (ray_coef (walls_of r.items) p d k)) }
+    ensures terms { IfOk result
+        (λ r. Every (HasNewTerms order (corrections_of (correction.now ∷ []))) (walls_of r.items)) }
 {
     let terms = added_terms(alloc, &correction.1)?;
     rays_of(alloc, order, &correction.0, terms.as_slice())
@@ -136,14 +148,18 @@ fn added_rays(
     corrections: &[(Point, LieElement)],
 ) -> Result<Vec<Wall>, AllocError>
     requires some { 1 ≤ order }
-    requires order { order ≤ 24 }
+    requires order { order ≤ highest_order }
     requires mergeable { AreMergeable order (corrections_of corrections.now) }
     requires tame { AreTame order (corrections_of corrections.now) }
     requires light { AreLight (corrections_of corrections.now) }
+    requires within { Every (λ c. (f : Sum) → AreAdded c.1 f → IsLightAlong order f)
+        (corrections_of corrections.now) }
     ensures rays { IfOk result (λ r. AreRays order r.items) }
-    ensures starts { IfOk result (λ r. Every (λ w. In w.at (map (λ c. c.0) (corrections_of corrections.now))) (walls_of r.items)) }
-    ensures added { IfOk result (λ r. (p : PlanePoint) (d : Exp) (k : SeriesKey) → IsDirection d → IsMultiple d k.exp → IsAdded (corrections_of corrections.now) p k (ray_coef (walls_of r.items) p d k)) }
-    ensures terms { IfOk result (λ r. Every (HasNewTerms order) (walls_of r.items)) }
+    ensures added { IfOk result
+        (λ r. (p : PlanePoint) (d : Exp) (k : SeriesKey) → IsDirection d → IsMultiple d k.exp →
+        IsAdded (corrections_of corrections.now) p k (ray_coef (walls_of r.items) p d k)) }
+    ensures terms { IfOk result
+        (λ r. Every (HasNewTerms order (corrections_of corrections.now)) (walls_of r.items)) }
 {
     let mut out = Vec::new(alloc);
     for correction in corrections {
@@ -161,15 +177,17 @@ fn merged_walls(
     corrections: &[(Point, LieElement)],
     order: u32,
 ) -> Result<(Vec<Wall>, Vec<Wall>), AllocError>
-    requires order { order ≤ 24 }
+    requires order { order ≤ highest_order }
     requires next { e.now.order + 1 ≡ order }
     requires mergeable { AreMergeable order (corrections_of corrections.now) }
     requires tame { AreTame order (corrections_of corrections.now) }
     requires light { AreLight (corrections_of corrections.now) }
-    requires starts { AreLightStarts order (corrections_of corrections.now) e.now.diagram.rays }
+    requires within { StayWithin order (corrections_of corrections.now) e.now.diagram.rays }
     ensures lines { IfOk result (λ r. AreLines order r.0.items) }
     ensures rays { IfOk result (λ r. AreRays order r.1.items) }
-    ensures merged { IfOk result (λ r. IsMerged initial.now.lines e.now.diagram (corrections_of corrections.now) order (record { initial = walls_of r.0.items; rays = walls_of r.1.items })) }
+    ensures merged { IfOk result
+        (λ r. IsMerged initial.now.lines e.now.diagram (corrections_of corrections.now) order
+        (record { initial = walls_of r.0.items; rays = walls_of r.1.items })) }
 {
     let lines = cut_walls(alloc, order, initial.lines())?;
     let added = added_rays(alloc, order, corrections)?;
@@ -187,27 +205,22 @@ pub fn merged(
     corrections: &[(Point, LieElement)],
     order: u32,
 ) -> Result<Diagram, Stop>
-    requires order { order ≤ 24 }
+    requires order { order ≤ highest_order }
     requires next { e.now.order + 1 ≡ order }
     requires mergeable { AreMergeable order (corrections_of corrections.now) }
     requires tame { AreTame order (corrections_of corrections.now) }
     requires light { AreLight (corrections_of corrections.now) }
-    requires starts { AreLightStarts order (corrections_of corrections.now) e.now.diagram.rays }
-    ensures { MatchResult result (IsMergedTo initial.now.lines e.now.diagram (corrections_of corrections.now) order) (IsStoppedAt initial.now.lines e.now.diagram (corrections_of corrections.now) order) }
+    requires within { StayWithin order (corrections_of corrections.now) e.now.diagram.rays }
+    ensures { MatchResult result
+        (IsMergedTo initial.now.lines e.now.diagram (corrections_of corrections.now) order)
+        (IsStoppedAt initial.now.lines e.now.diagram (corrections_of corrections.now) order) }
 {
-    match merged_walls(alloc, initial, e, corrections, order) {
-        Ok((lines, rays)) => {
-            if lines.len() + rays.len() > MOST_WALLS {
-                return Err(Stop::At {
-                    order,
-                    cause: StopCause::TooManyWalls,
-                });
-            }
-            match Diagram::from_walls(alloc, order, lines, rays) {
-                Ok(merged) => Ok(merged),
-                Err(_) => Err(Stop::Memory),
-            }
-        }
-        Err(_) => Err(Stop::Memory),
+    let (lines, rays) = merged_walls(alloc, initial, e, corrections, order)?;
+    if lines.len() + rays.len() > MOST_WALLS {
+        return Err(Stop::At {
+            order,
+            cause: StopCause::TooManyWalls,
+        });
     }
+    Ok(Diagram::from_walls(alloc, order, lines, rays)?)
 }

@@ -1,7 +1,7 @@
 // The order of rays: by start, then by direction.
 
 ghost use Rattle.std.specs.Prelude.{◌≡◌};
-ghost use Rattle.plane_geom.specs.Shown.{exp_of};
+ghost use Rattle.plane_geom.specs.Shown.{vector_of};
 ghost use Rattle.scatter_diagram.specs.Shown.{wall_of};
 ghost use Rattle.ray_merge.specs.Rays.{exp_order, ray_order};
 
@@ -10,7 +10,7 @@ use scatter_diagram::Wall;
 use std::cmp::Ordering;
 
 fn compare_directions(d: &Direction, e: &Direction) -> Ordering
-    ensures { result ≡ exp_order (exp_of d.now) (exp_of e.now) }
+    ensures { result ≡ exp_order (vector_of d.now) (vector_of e.now) }
 {
     match d.a.cmp(&e.a) {
         Ordering::Equal => d.b.cmp(&e.b),

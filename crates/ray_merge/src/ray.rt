@@ -1,11 +1,12 @@
 // Single rays: read at a higher order, joined with another, or made of one term.
 
-ghost use Rattle.std.specs.Prelude.{◌≡◌, ◌≢◌, ◌≤◌, ◌^◌, IfOk, filter, nat_abs, not};
+ghost use Rattle.std.specs.Prelude.{◌≡◌, ◌≢◌, ◌≤◌, IfOk, filter, not};
+ghost use Rattle.limits.specs.Limits.{highest_order};
 ghost use Rattle.scattering.specs.Series.{IsMultiple, key_eq, origin, unit};
-ghost use Rattle.plane_geom.specs.Shown.{exp_of, point_of};
+ghost use Rattle.plane_geom.specs.Shown.{vector_of, point_of};
 ghost use Rattle.trunc_series.specs.Shown.{key_of, term_of};
 ghost use Rattle.scatter_diagram.specs.Shown.{wall_of};
-ghost use Rattle.ray_merge.specs.Additions.{IsTameKey, IsTermOf};
+ghost use Rattle.ray_merge.specs.Additions.{IsTameKey, IsRayTerm};
 ghost use Rattle.ray_merge.specs.Rays.{IsJoinable, IsJoined, IsRayOf};
 
 use frac_128::gcd;
@@ -17,7 +18,7 @@ use trunc_series::{Key, Series, is_constant};
 
 /// The ray with its function read at a higher order.
 pub(crate) fn raised(alloc: Global, order: u32, ray: &Wall) -> Result<Wall, AllocError>
-    requires order { order ≤ 24 }
+    requires order { order ≤ highest_order }
     requires lower { ray.now.function.order ≤ order }
     ensures wall { IfOk result (λ w. wall_of w ≡ wall_of ray.now) }
     ensures order { IfOk result (λ w. w.function.order ≡ order) }
@@ -40,7 +41,7 @@ fn others(alloc: Global, terms: &[(Key, i128)]) -> Result<Vec<(Key, i128)>, Allo
 
 /// The first ray with the terms of the second, which has the same direction.
 pub(crate) fn joined(alloc: Global, order: u32, r: &Wall, s: &Wall) -> Result<Wall, AllocError>
-    requires order { order ≤ 24 }
+    requires order { order ≤ highest_order }
     requires left { r.now.function.order ≤ order }
     requires right { s.now.function.order ≤ order }
     requires dir { (wall_of r.now).dir ≡ (wall_of s.now).dir }
@@ -63,8 +64,8 @@ pub(crate) fn joined(alloc: Global, order: u32, r: &Wall, s: &Wall) -> Result<Wa
 /// m/gcd(m), for the exponent m of the key.
 fn primitive(key: &Key) -> Direction
     requires exponent { (key_of key.now).exp ≢ origin }
-    requires tame { IsTameKey 24 (key_of key.now) }
-    ensures { IsMultiple (exp_of result) (key_of key.now).exp }
+    requires tame { IsTameKey highest_order (key_of key.now) }
+    ensures { IsMultiple (vector_of result) (key_of key.now).exp }
 {
     let (a, b) = (key.exp.a, key.exp.b);
     let g = gcd(a.unsigned_abs() as u128, b.unsigned_abs() as u128) as i32;
@@ -79,9 +80,8 @@ pub(crate) fn ray_of(
     term: &(Key, i128),
 ) -> Result<Wall, AllocError>
     requires some { 1 ≤ order }
-    requires order { order ≤ 24 }
-    requires term { IsTermOf order (term_of term.now) }
-    requires small { nat_abs term.now.1 ≤ 2 ^ 126 }
+    requires order { order ≤ highest_order }
+    requires term { IsRayTerm order (term_of term.now) }
     ensures wall { IfOk result (λ w. IsRayOf order (point_of at.now) (term_of term.now) (wall_of w)) }
     ensures order { IfOk result (λ w. w.function.order ≡ order) }
 {

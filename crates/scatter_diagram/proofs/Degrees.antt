@@ -6,7 +6,7 @@ use Rattle.std.proofs.lemmas.List.{take_more}
 use Rattle.std.proofs.lemmas.List.Folds.{list_any-append}
 use Rattle.std.proofs.lemmas.List.Elements.{filter-append}
 use Rattle.scattering.specs.Series.{Term, Sum, degree, rest, key_eq, unit}
-use Rattle.scattering.proofs.Lists.{any-weaken}
+use Rattle.scattering.proofs.Lists.{any-weaken, or-first}
 use Rattle.trunc_series.specs.declared.key.Key.{Key as CodeKey}
 use Rattle.trunc_series.specs.Shown.{key_of, term_of, sum_of}
 use Rattle.trunc_series.proofs.Terms.{at, no_term, sum_of-append}
@@ -39,9 +39,6 @@ at-most f n m h e = any-weaken (λ (t : Term). nat_lt (degree t.0) n) (λ (t : T
   where
     less : (d : ℕ) → nat_lt d n ≡ false → nat_lt d m ≡ false
     less d q = grind (arith, h)
-
-or-first : (a b : Bool) → a ≡ true → (a || b) ≡ true
-or-first a b e = rw e refl
 
 or-none : (a b : Bool) → a ≡ false → b ≡ false → (a || (b || false)) ≡ false
 or-none a b e q = rw (e, q) refl

@@ -1,4 +1,3 @@
 pub mod Degrees
 pub mod Walls
 pub mod Places
-pub mod Worked

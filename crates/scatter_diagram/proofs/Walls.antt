@@ -9,9 +9,9 @@ use Rattle.scattering.proofs.Lists.{Every-filter}
 use Rattle.completion_theory.proofs.LowerOrders.{wall-cut}
 use Rattle.trunc_series.specs.Shown.{Seen, IsSeriesOf}
 use Rattle.trunc_series.proofs.Unique.{series-terms}
-use Rattle.plane_geom.specs.Shown.{exp_of}
+use Rattle.plane_geom.specs.Shown.{vector_of}
 use Rattle.scatter_diagram.specs.declared.wall.Wall.{Wall as CodeWall}
-use Rattle.scatter_diagram.specs.Proper.{IsProper, IsTame}
+use Rattle.scatter_diagram.specs.Proper.{IsProper, IsTame, AreTameWalls}
 use Rattle.scatter_diagram.specs.Shown.{wall_of, walls_of}
 use Rattle.scatter_diagram.specs.Listed.{AreOfOrder, orders_of}
 
@@ -23,7 +23,7 @@ are-walls n [] h = tt
 are-walls n (w ∷ ws) h = (subst (λ (m : ℕ). IsWall m (wall_of w)) h.0 (is-wall w), are-walls n ws h.1)
 
 -- what the type keeps of each function beside that
-pub are-tame : (ws : List CodeWall) → Every (λ (w : Wall). Every IsTame w.function) (walls_of ws)
+pub are-tame : (ws : List CodeWall) → AreTameWalls (walls_of ws)
 are-tame [] = tt
 are-tame (w ∷ ws) = (w.proper.tame, are-tame ws)
 
@@ -53,8 +53,8 @@ function-cut w n s l h = (record { function = made; mass = mass; tame = tame }, 
     e : s.terms ≡ cut n w.function.terms
     e = series-terms s n n (cut n w.function.terms) h cut-is.function.series
 
-    made : IsWallFunction s.order (exp_of w.dir) s.terms
-    made = subst (λ (f : Sum). IsWallFunction s.order (exp_of w.dir) f) (sym e) (subst (λ (m : ℕ). IsWallFunction m (exp_of w.dir) (cut n w.function.terms)) (sym h.order) cut-is.function)
+    made : IsWallFunction s.order (vector_of w.dir) s.terms
+    made = subst (λ (f : Sum). IsWallFunction s.order (vector_of w.dir) f) (sym e) (subst (λ (m : ℕ). IsWallFunction m (vector_of w.dir) (cut n w.function.terms)) (sym h.order) cut-is.function)
 
     mass : mass_to s.order s.terms ≤ 2 ^ 127
     mass = rw (h.order, e) (let a = mass-cut n w.function.order w.function.terms l in omega (arith, a, w.proper.mass))

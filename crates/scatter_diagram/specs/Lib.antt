@@ -4,4 +4,3 @@ pub mod Kinds
 pub mod Shown
 pub mod Listed
 pub mod Stopped
-pub mod Worked

@@ -3,10 +3,11 @@
 --     AreRays n ws             outgoing rays with functions of order n, reduced
 --     SeenInitial              the number of variables and the lines
 --     SeenDiagram              the order, the lines and the rays
-use Rattle.std.specs.Prelude.{◌≡◌, ℕ, ◌≤◌, List, length, map}
+use Rattle.std.specs.Prelude.{◌≡◌, ℕ, ◌≤◌, List, length, map, filter}
+use Rattle.limits.specs.Limits.{highest_order, most_lines, most_variables}
 use Rattle.scattering.specs.Collections.{Every}
-use Rattle.scattering.specs.Wall.{Line, Outgoing, Wall, Diagram}
-use Rattle.scattering.specs.Completion.{IsReduced}
+use Rattle.scattering.specs.Wall.{Line, Outgoing, Wall, Diagram, cut_walls, is_live}
+use Rattle.scattering.specs.Completion.{IsReduced, lowered}
 use Rattle.scatter_diagram.specs.declared.wall.Wall.{Wall as CodeWall}
 use Rattle.scatter_diagram.specs.Shown.{walls_of}
 
@@ -28,13 +29,13 @@ pub record AreRays (n : ℕ) (ws : List CodeWall) : Type 0 where
 -- what initial walls keep
 pub record IsInitialList (vars : ℕ) (ws : List CodeWall) : Type 0 where
   pub some_vars : 1 ≤ vars
-  pub few_vars : vars ≤ 8
-  pub few_lines : length ws ≤ 16
-  pub lines : AreLines 24 ws
+  pub few_vars : vars ≤ most_variables
+  pub few_lines : length ws ≤ most_lines
+  pub lines : AreLines highest_order ws
 
 -- what a diagram keeps
 pub record IsDiagram (n : ℕ) (ls rs : List CodeWall) : Type 0 where
-  pub order : n ≤ 24
+  pub order : n ≤ highest_order
   pub lines : AreLines n ls
   pub rays : AreRays n rs
 
@@ -47,3 +48,17 @@ pub record SeenInitial : Type 0 where
 pub record SeenDiagram : Type 0 where
   pub order : ℕ
   pub diagram : Diagram
+
+abbrev pub seen_diagram : ℕ → List CodeWall → List CodeWall → SeenDiagram
+seen_diagram n ls rs = record { order = n; diagram = record { initial = walls_of ls; rays = walls_of rs } }
+
+abbrev pub lowered_to : ℕ → SeenDiagram → SeenDiagram
+lowered_to n e = record { order = n; diagram = lowered n e.diagram }
+
+-- the walls cut to degree n, without those whose functions become 1
+abbrev pub live_cuts : ℕ → List CodeWall → List Wall
+live_cuts n ws = filter is_live (cut_walls n (walls_of ws))
+
+-- the same walls, with functions of the same orders
+abbrev pub AreSameWalls : List CodeWall → List CodeWall → Type 0
+AreSameWalls a b = (walls_of a ≡ walls_of b) × (orders_of a ≡ orders_of b)

@@ -1,10 +1,11 @@
 // Diagrams: lines and reduced outgoing rays with functions of one order.
 
 ghost use Rattle.std.specs.Prelude.{◌≡◌, ◌↔◌, ◌<◌, ◌≤◌, IsTrue, IfOk, length, slice_index_or};
+ghost use Rattle.limits.specs.Limits.{highest_order};
 ghost use Rattle.scattering.specs.Collections.{Every};
-ghost use Rattle.scattering.specs.Wall.{Line, Outgoing, IsWall};
-ghost use Rattle.scattering.specs.Completion.{lowered};
-ghost use Rattle.scatter_diagram.specs.Listed.{AreLines, AreRays};
+ghost use Rattle.scattering.specs.Wall.{Line, Outgoing, IsWall, walls};
+ghost use Rattle.scatter_diagram.specs.Proper.{AreTameWalls};
+ghost use Rattle.scatter_diagram.specs.Listed.{AreLines, AreRays, seen_diagram, lowered_to};
 ghost use Rattle.scatter_diagram.specs.Shown.{wall_of, walls_of};
 
 use crate::Wall;
@@ -23,12 +24,11 @@ pub struct Diagram {
 }
 
 impl Model for Diagram {
-    ghost use Rattle.scatter_diagram.specs.Listed.{SeenDiagram, IsDiagram};
-    ghost use Rattle.scatter_diagram.specs.Shown.{walls_of};
+    ghost use Rattle.scatter_diagram.specs.Listed.{SeenDiagram, IsDiagram, seen_diagram};
 
     ghost Value = { SeenDiagram };
 
-    ghost view = { λ e. record { order = e.order; diagram = record { initial = walls_of e.lines.items; rays = walls_of e.rays.items } } };
+    ghost view = { λ e. seen_diagram e.order e.lines.items e.rays.items };
 
     ghost invariant = { λ e. IsDiagram e.order e.lines.items e.rays.items };
 }
@@ -41,10 +41,10 @@ impl Diagram {
         lines: Vec<Wall>,
         rays: Vec<Wall>,
     ) -> Result<Diagram, AllocError>
-        requires order { order ≤ 24 }
+        requires order { order ≤ highest_order }
         requires lines { AreLines order lines.items }
         requires rays { AreRays order rays.items }
-        ensures { IfOk result (λ e. e ≡ record { order = order; diagram = record { initial = walls_of lines.items; rays = walls_of rays.items } }) }
+        ensures { IfOk result (λ e. e ≡ seen_diagram order lines.items rays.items) }
     {
         Ok(Diagram {
             alloc,
@@ -56,7 +56,9 @@ impl Diagram {
 
     pub fn order(&self) -> u32
         ensures value { result ≡ self.now.order }
-        ensures bound { result ≤ 24 }
+        ensures bound { result ≤ highest_order }
+        ensures proper { Every (IsWall self.now.order) (walls self.now.diagram) }
+        ensures tame { AreTameWalls (walls self.now.diagram) }
     {
         self.order
     }
@@ -96,6 +98,7 @@ impl Diagram {
         ensures walls { walls_of result.now ≡ self.now.diagram.initial }
         ensures lines { AreLines self.now.order result.now }
         ensures proper { Every (IsWall self.now.order) self.now.diagram.initial }
+        ensures tame { AreTameWalls self.now.diagram.initial }
     {
         self.lines.as_slice()
     }
@@ -105,6 +108,7 @@ impl Diagram {
         ensures walls { walls_of result.now ≡ self.now.diagram.rays }
         ensures rays { AreRays self.now.order result.now }
         ensures proper { Every (IsWall self.now.order) self.now.diagram.rays }
+        ensures tame { AreTameWalls self.now.diagram.rays }
     {
         self.rays.as_slice()
     }
@@ -112,7 +116,7 @@ impl Diagram {
     /// The diagram cut to a lower order, without the rays whose functions become 1; lines stay.
     pub fn truncate(&self, order: u32) -> Result<Diagram, AllocError>
         requires { order ≤ self.now.order }
-        ensures { IfOk result (λ e. e ≡ record { order = order; diagram = lowered order self.now.diagram }) }
+        ensures { IfOk result (λ e. e ≡ lowered_to order self.now) }
     {
         Ok(Diagram {
             alloc: self.alloc,

@@ -1,6 +1,7 @@
 // Initial walls: the lines that a diagram is completed from.
 
 ghost use Rattle.std.specs.Prelude.{◌≡◌, ◌≤◌, IfOk, length};
+ghost use Rattle.limits.specs.Limits.{highest_order, most_lines, most_variables};
 ghost use Rattle.scattering.specs.Collections.{Every};
 ghost use Rattle.scattering.specs.Wall.{IsWall};
 ghost use Rattle.scatter_diagram.specs.Listed.{AreLines};
@@ -32,10 +33,10 @@ impl Model for Initial {
 
 impl Initial {
     pub fn new(vars: u32, lines: Vec<Wall>) -> Initial
-        requires few_vars { vars ≤ 8 }
+        requires few_vars { vars ≤ most_variables }
         requires some_vars { 1 ≤ vars }
-        requires few_lines { length lines.items ≤ 16 }
-        requires lines { AreLines 24 lines.items }
+        requires few_lines { length lines.items ≤ most_lines }
+        requires lines { AreLines highest_order lines.items }
         ensures { result ≡ record { vars = vars; lines = walls_of lines.items } }
     {
         Initial { vars, lines }
@@ -44,16 +45,16 @@ impl Initial {
     pub fn vars(&self) -> u32
         ensures value { result ≡ self.now.vars }
         ensures least { 1 ≤ result }
-        ensures most { result ≤ 8 }
+        ensures most { result ≤ most_variables }
     {
         self.vars
     }
 
     pub fn lines(&self) -> &[Wall]
         ensures walls { walls_of result.now ≡ self.now.lines }
-        ensures lines { AreLines 24 result.now }
-        ensures proper { Every (IsWall 24) self.now.lines }
-        ensures few { length result.now ≤ 16 }
+        ensures lines { AreLines highest_order result.now }
+        ensures proper { Every (IsWall highest_order) self.now.lines }
+        ensures few { length result.now ≤ most_lines }
     {
         self.lines.as_slice()
     }

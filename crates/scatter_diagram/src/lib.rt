@@ -5,6 +5,7 @@
 mod diagram;
 mod initial;
 mod lists;
+mod shared;
 mod stop;
 mod wall;
 
@@ -13,6 +14,3 @@ pub use initial::Initial;
 pub use lists::cut_walls;
 pub use stop::{Stop, StopCause};
 pub use wall::{Wall, WallKind, opposite};
-
-#[cfg(test)]
-mod tests;

@@ -1,10 +1,10 @@
 // Lists of walls: cut, copied and compared.
 
-ghost use Rattle.std.specs.Prelude.{◌≡◌, ◌↔◌, ◌≤◌, IsTrue, IfOk, filter};
+ghost use Rattle.std.specs.Prelude.{◌≡◌, ◌↔◌, ◌≤◌, IsTrue, IfOk};
 ghost use Rattle.scattering.specs.Collections.{Every};
-ghost use Rattle.scattering.specs.Wall.{is_live, cut_walls};
+ghost use Rattle.scattering.specs.Wall.{cut_walls};
 ghost use Rattle.scatter_diagram.specs.Shown.{walls_of};
-ghost use Rattle.scatter_diagram.specs.Listed.{AreOfOrder, orders_of};
+ghost use Rattle.scatter_diagram.specs.Listed.{AreOfOrder, live_cuts, AreSameWalls};
 
 use crate::Wall;
 use std::alloc::{AllocError, Global};
@@ -25,7 +25,7 @@ pub fn cut_walls(alloc: Global, order: u32, walls: &[Wall]) -> Result<Vec<Wall>,
 /// The same without walls whose functions become 1.
 pub(crate) fn live_walls(alloc: Global, order: u32, walls: &[Wall]) -> Result<Vec<Wall>, AllocError>
     requires { Every (λ w. order ≤ w.function.order) walls.now }
-    ensures walls { IfOk result (λ r. walls_of r.items ≡ filter is_live (cut_walls order (walls_of walls.now))) }
+    ensures walls { IfOk result (λ r. walls_of r.items ≡ live_cuts order walls.now) }
     ensures order { IfOk result (λ r. AreOfOrder order r.items) }
 {
     let mut out = Vec::new(alloc);
@@ -50,7 +50,7 @@ pub(crate) fn copied(alloc: Global, walls: &[Wall]) -> Result<Vec<Wall>, AllocEr
 
 /// Whether two lists have the same walls, with functions of the same orders.
 pub(crate) fn are_same(a: &[Wall], b: &[Wall]) -> bool
-    ensures { IsTrue result ↔ ((walls_of a.now ≡ walls_of b.now) × (orders_of a.now ≡ orders_of b.now)) }
+    ensures { IsTrue result ↔ AreSameWalls a.now b.now }
 {
     if a.len() != b.len() {
         return false;

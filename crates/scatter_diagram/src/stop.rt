@@ -1,5 +1,7 @@
 // What ends a computation before its order.
 
+use std::alloc::{AllocError, AllocFailed};
+
 /// Why an order is not computed.
 #[derive(Clone, Copy, Debug, PartialEq, Eq)]
 pub enum StopCause {
@@ -16,4 +18,26 @@ pub enum StopCause {
 pub enum Stop {
     At { order: u32, cause: StopCause },
     Memory,
+}
+
+impl From<AllocError> for Stop {
+    ghost use Rattle.std.specs.Prelude.{◌≡◌};
+    ghost use Rattle.scatter_diagram.specs.declared.stop.Stop.TheVariants.{Memory};
+
+    ghost from_gives = { λ _ s. s ≡ Memory };
+
+    fn from(_e: AllocError) -> Stop {
+        Stop::Memory
+    }
+}
+
+impl<T: Drop> From<AllocFailed<T>> for Stop {
+    ghost use Rattle.std.specs.Prelude.{◌≡◌};
+    ghost use Rattle.scatter_diagram.specs.declared.stop.Stop.TheVariants.{Memory};
+
+    ghost from_gives = { λ _ s. s ≡ Memory };
+
+    fn from(_e: AllocFailed<T>) -> Stop {
+        Stop::Memory
+    }
 }

@@ -1,12 +1,11 @@
 // Walls: lines and outgoing rays.
 
-ghost use Rattle.std.specs.Prelude.{◌≡◌, ◌↔◌, ◌≤◌, IsTrue, IfOk, MatchOption, false, not};
+ghost use Rattle.std.specs.Prelude.{◌≡◌, ◌↔◌, ◌≤◌, IsTrue, IfOk, not};
 ghost use Rattle.std.specs.List.{list_any};
 ghost use Rattle.scattering.specs.Series.{rest, key_eq, unit};
 ghost use Rattle.scattering.specs.Plane.{Point as PlanePoint, IsPoint};
 ghost use Rattle.scattering.specs.Wall as D;
-ghost use Rattle.scattering.specs.ActivePoint.{begins_at};
-ghost use Rattle.plane_geom.specs.Shown.{point_of, exp_of, OnSupport};
+ghost use Rattle.plane_geom.specs.Shown.{point_of, vector_of, OnSupport};
 ghost use Rattle.trunc_series.specs.Shown.{key_of, sum_of};
 ghost use Rattle.scatter_diagram.specs.Proper.{IsProper, IsProper-prop};
 ghost use Rattle.scatter_diagram.specs.Degrees.{IsLeastDegree, lesser_of, opposite};
@@ -37,12 +36,12 @@ pub struct Wall {
 }
 
 impl Wall {
-    ghost use Rattle.scatter_diagram.specs.Shown.{wall_of, IsSupportOf};
+    ghost use Rattle.scatter_diagram.specs.Shown.{wall_of, wall_from, IsSupportOf, IsFirstDegree, IsSameWall};
 
     /// The whole line through a point.
     pub fn line(at: Point, dir: Direction, function: Series) -> Wall
         requires { IsProper dir function }
-        ensures wall { wall_of result ≡ record { kind = D.Line; at = point_of at; dir = exp_of dir; function = function.terms } }
+        ensures wall { wall_of result ≡ wall_from D.Line (point_of at) (vector_of dir) function.terms }
         ensures function { result.function ≡ function }
     {
         Wall {
@@ -56,7 +55,7 @@ impl Wall {
     /// The ray that starts at a point.
     pub fn outgoing(at: Point, dir: Direction, function: Series) -> Wall
         requires { IsProper dir function }
-        ensures wall { wall_of result ≡ record { kind = D.Outgoing; at = point_of at; dir = exp_of dir; function = function.terms } }
+        ensures wall { wall_of result ≡ wall_from D.Outgoing (point_of at) (vector_of dir) function.terms }
         ensures function { result.function ≡ function }
     {
         Wall {
@@ -101,7 +100,7 @@ impl Wall {
 
     /// The least degree of a term other than 1, or None where there is none.
     pub fn least_degree(&self) -> Option<u32>
-        ensures { MatchOption result (D.is_live (wall_of self.now) ≡ false) (λ n. IsTrue (begins_at n (wall_of self.now))) }
+        ensures { IsFirstDegree (wall_of self.now) result }
     {
         least_degree_of(self.function.terms())
     }
@@ -142,7 +141,7 @@ impl Wall {
 
     /// Whether kinds, points, directions and functions, with their orders, are the same.
     pub fn same(&self, other: &Wall) -> bool
-        ensures { IsTrue result ↔ ((wall_of self.now ≡ wall_of other.now) × (self.now.function.order ≡ other.now.function.order)) }
+        ensures { IsTrue result ↔ IsSameWall self.now other.now }
     {
         same_kind(self.kind, other.kind)
             && same_place(&self.at, &other.at)
@@ -182,7 +181,7 @@ fn lesser(least: Option<u32>, degree: u32) -> u32
 
 /// -d
 pub fn opposite(d: &Direction) -> Direction
-    ensures { exp_of result ≡ opposite (exp_of d.now) }
+    ensures { vector_of result ≡ opposite (vector_of d.now) }
 {
     Direction { a: -d.a, b: -d.b }
 }
@@ -203,7 +202,7 @@ fn same_place(p: &Point, q: &Point) -> bool
 }
 
 fn same_direction(d: &Direction, e: &Direction) -> bool
-    ensures { IsTrue result ↔ (exp_of d.now ≡ exp_of e.now) }
+    ensures { IsTrue result ↔ (vector_of d.now ≡ vector_of e.now) }
 {
     angle_cmp(d, e) == Ordering::Equal
 }

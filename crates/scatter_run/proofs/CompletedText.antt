@@ -1,9 +1,10 @@
 -- What is made of a file by its initial lines, their completion and its text.
-use Rattle.std.proofs.Common.{◌≡◌, ℕ, subst, ◌≤◌, ◌^◌, List, length, arith}
+use Rattle.std.proofs.Common.{◌≡◌, ℕ, subst, ◌≤◌, List, length, arith}
 use Rattle.std.specs.Prelude.{Option, Some, None}
-use Rattle.scattering.specs.Wall.{Wall, Diagram, cut_walls}
+use Rattle.limits.specs.Limits.{highest_order, most_bytes}
+use Rattle.scattering.specs.Wall.{Wall, cut_walls}
 use Rattle.scattering.specs.Completion.{IsCompletion}
-use Rattle.scattering.specs.Stops.{StopCause, IsFirstStop, last_before}
+use Rattle.scattering.specs.Stops.{IsFirstStop, last_before}
 use Rattle.completion_theory.proofs.CutGiven.{completion-of_cut, first_stop-of_cut}
 use Rattle.scatter_diagram.specs.declared.stop.StopCause.{StopCause as CodeCause}
 use Rattle.scatter_diagram.specs.Listed.{SeenInitial}
@@ -18,15 +19,15 @@ use Rattle.scatter_text.specs.Grammar.{IsTextOf}
 use Rattle.scatter_text.specs.Limits.{limit_of}
 use Rattle.scatter_run.specs.declared.status.Status.{Status}
 use Rattle.scatter_run.specs.declared.status.Status.TheVariants.{Done, Words, Text, Limit, Stopped, ReadFault, WriteFault, Memory}
-use Rattle.scatter_run.specs.Outcome.{IsEnded, IsJobOutcome, ends_with}
+use Rattle.scatter_run.specs.Outcome.{IsEnded, IsCompleteOutcome, ends_with}
 use Rattle.scatter_run.proofs.OneOutcome.{last-low}
 
-completed-text : (file : TextFile) (order : ℕ) (i : SeenInitial) (o : Outcome) (text : List ℕ) → order ≤ 24 → IsInitialOf file i → IsOutcome i order o
+completed-text : (file : TextFile) (order : ℕ) (i : SeenInitial) (o : Outcome) (text : List ℕ) → order ≤ highest_order → IsInitialOf file i → IsOutcome i order o
     → IsDiagramText i.vars o.last.order o.last.diagram (stop_of o.stop) text → IsCompletedText file order (stop_of o.stop) text
 completed-text file order i o text low is out t =
-    let first : IsFirstStop (cut_walls 24 is.given) order (stop_of o.stop) = subst (λ (ws : List Wall). IsFirstStop ws order (stop_of o.stop)) is.lines out.stop in
-    let last : last_before order (stop_of o.stop) ≤ 24 = let l = last-low (cut_walls 24 is.given) order (stop_of o.stop) first in omega (arith, l, low) in
-    let done : IsCompletion (cut_walls 24 is.given) (last_before order (stop_of o.stop)) o.last.diagram =
+    let first : IsFirstStop (cut_walls highest_order is.given) order (stop_of o.stop) = subst (λ (ws : List Wall). IsFirstStop ws order (stop_of o.stop)) is.lines out.stop in
+    let last : last_before order (stop_of o.stop) ≤ highest_order = let l = last-low (cut_walls highest_order is.given) order (stop_of o.stop) first in omega (arith, l, low) in
+    let done : IsCompletion (cut_walls highest_order is.given) (last_before order (stop_of o.stop)) o.last.diagram =
     subst (λ (ws : List Wall). IsCompletion ws (last_before order (stop_of o.stop)) o.last.diagram) is.lines (subst (λ (n : ℕ). IsCompletion i.lines n o.last.diagram) out.order out.completes) in
     record {
       vars = i.vars;
@@ -34,8 +35,8 @@ completed-text file order i o text low is out t =
       diagram = o.last.diagram;
       variables = is.vars;
       lines = is.walls;
-      first = first_stop-of_cut is.given 24 order (stop_of o.stop) low first;
-      completion = completion-of_cut is.given 24 (last_before order (stop_of o.stop)) o.last.diagram last done;
+      first = first_stop-of_cut is.given highest_order order (stop_of o.stop) low first;
+      completion = completion-of_cut is.given highest_order (last_before order (stop_of o.stop)) o.last.diagram last done;
       printed = subst (λ (n : ℕ). IsDiagramText i.vars n o.last.diagram (stop_of o.stop) text) out.order t;
     }
 
@@ -43,12 +44,12 @@ ended-by : (file : TextFile) (order : ℕ) (stop : Option (ℕ × CodeCause)) (t
 ended-by file order None text h = h
 ended-by file order (Some s) text h = h
 
-pub ended : (file : TextFile) (order : ℕ) (i : SeenInitial) (o : Outcome) (text : List ℕ) → order ≤ 24 → IsInitialOf file i → IsOutcome i order o
+pub ended : (file : TextFile) (order : ℕ) (i : SeenInitial) (o : Outcome) (text : List ℕ) → order ≤ highest_order → IsInitialOf file i → IsOutcome i order o
     → IsDiagramText i.vars o.last.order o.last.diagram (stop_of o.stop) text → IsEnded file order (ends_with o.stop) text
 ended file order i o text low is out t = ended-by file order o.stop text (completed-text file order i o text low is out t)
 
 -- so it is the outcome of bytes that say the file
-pub job-outcome : (order : ℕ) (bytes : List ℕ) (file : TextFile) (status : Status) (text : List ℕ) → length bytes ≤ 2 ^ 20 → IsTextOf bytes file → limit_of file order ≡ None → IsEnded file order status text → IsJobOutcome order bytes status text
+pub job-outcome : (order : ℕ) (bytes : List ℕ) (file : TextFile) (status : Status) (text : List ℕ) → length bytes ≤ most_bytes → IsTextOf bytes file → limit_of file order ≡ None → IsEnded file order status text → IsCompleteOutcome order bytes status text
 job-outcome order bytes file Done text short reads within h = record { short = short; file = file; reads = reads; within = within; completed = h }
 job-outcome order bytes file Words text short reads within h = absurd h
 job-outcome order bytes file (Text line kind) text short reads within h = absurd h

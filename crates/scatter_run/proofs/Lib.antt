@@ -1,5 +1,5 @@
 pub mod CompletedText
 pub mod OneOutcome
-pub mod Outcomes
+pub mod Promises
 pub mod WordLists
 pub mod Written

@@ -1,11 +1,12 @@
 -- Words and bytes have one outcome: one status and one text.
-use Rattle.std.proofs.Common.{◌≡◌, ◌≢◌, ℕ, zero, suc, refl, sym, ◌∙◌, ap, subst, ◌≤◌, ◌<◌, ◌^◌, ◌⊎◌, inl, inr, List, [], ◌∷◌, ◌++◌, length, arith}
-use Rattle.std.specs.Prelude.{pos, Option, Some, None, IfSome, codes, decimal}
+use Rattle.std.proofs.Common.{◌≡◌, ℕ, zero, suc, refl, sym, ◌∙◌, ap, subst, ◌≤◌, ◌<◌, ◌⊎◌, inl, inr, List, length, arith}
+use Rattle.std.specs.Prelude.{pos, Option, Some, None, IfSome}
 use Rattle.std.specs.List.{AllZip}
+use Rattle.limits.specs.Limits.{highest_order, most_bytes}
 use Rattle.scattering.specs.Collections.{Every}
 use Rattle.scattering.specs.Wall.{Wall, IsWall, Diagram, walls, cut_walls}
 use Rattle.scattering.specs.Completion.{IsCompletion}
-use Rattle.scattering.specs.Stops.{StopCause, PointTooLarge, WeightTooLarge, TooManyWalls, IsFirstStop, last_before}
+use Rattle.scattering.specs.Stops.{StopCause, IsFirstStop, last_before}
 use Rattle.scattering.proofs.Lists.{Every-append}
 use Rattle.completion_theory.proofs.LowerOrders.{every-wall-cut, cut-cuts}
 use Rattle.completion_theory.proofs.UniqueCompletion.{completion_is_unique}
@@ -19,8 +20,8 @@ use Rattle.scatter_text.specs.declared.file.TextFile.{TextFile}
 use Rattle.scatter_text.specs.declared.fault.LimitKind.{LimitKind}
 use Rattle.scatter_text.specs.declared.fault.LimitKind.TheVariants.{Bytes}
 use Rattle.scatter_text.specs.declared.fault.TextKind.{TextKind}
-use Rattle.scatter_text.specs.Grammar.{IsTextOf, IsTextFault, kind_word}
-use Rattle.scatter_text.specs.Limits.{limit_of, limit_by, limit_word}
+use Rattle.scatter_text.specs.Grammar.{IsTextOf, IsTextFault}
+use Rattle.scatter_text.specs.Limits.{limit_of, limit_by}
 use Rattle.scatter_text.specs.DiagramText.{IsDiagramText}
 use Rattle.scatter_text.specs.GivenWalls.{IsWallOf}
 use Rattle.scatter_text.proofs.WithinLimits.{within-limits}
@@ -28,13 +29,15 @@ use Rattle.scatter_text.proofs.InitialLines.{given-cut}
 use Rattle.scatter_text.proofs.Outcomes.{text_has_no_fault, fault_is_one}
 use Rattle.scatter_text.proofs.OneFile.{file_is_one}
 use Rattle.scatter_text.proofs.OneDiagramText.{walls-one, text-one}
+use Rattle.scatter_run.specs.declared.words.Job.{Job}
+use Rattle.scatter_run.specs.declared.words.Job.TheVariants.{Complete}
 use Rattle.scatter_run.specs.declared.status.Status.{Status}
 use Rattle.scatter_run.specs.declared.status.Status.TheVariants.{Done, Words, Text, Limit, Stopped, ReadFault, WriteFault, Memory}
-use Rattle.scatter_run.specs.Completed.{IsCompletedText}
-use Rattle.scatter_run.specs.Words.{IsComplete}
-use Rattle.scatter_run.specs.Outcome.{IsJobOutcome, IsOutcome, IsVerdict, HasCompleted, HasWritten, IsGiven, PassesLimit, ends_with, fault_text, words_fault_text}
+use Rattle.scatter_run.specs.Words.{AreWordsOf, NameNoJob}
+use Rattle.scatter_run.specs.Outcome.{IsCompleteOutcome, IsJobOutcome, IsRunOutcome, IsVerdict, HasCompleted, IsLimited as IsLimitOf, PassesLimit, ends_with, bad_text, limit_fault_text, words_fault_text}
+use Rattle.scatter_run.specs.Promise.{IsOnlyOutcome, HasWritten}
 use Rattle.scatter_run.specs.Writing.{IsWritten}
-use Rattle.scatter_run.proofs.Outcomes.{same_order, outcome_of}
+use Rattle.scatter_run.proofs.Promises.{none-some, outcome-same}
 
 -- ---- what is completed
 
@@ -48,24 +51,24 @@ record Same (stop stop' : Option (ℕ × StopCause)) (text other : List ℕ) : T
   texts : text ≡ other
 
 -- of one list of walls
-module _ (given : List Wall) (order vars : ℕ) (low : order ≤ 24) (proper : Every (IsWall 24) (cut_walls 24 given)) where
-  diagram-walls : (n : ℕ) (e : Diagram) → n ≤ 24 → IsCompletion given n e → Every (IsWall n) (walls e)
+module _ (given : List Wall) (order vars : ℕ) (low : order ≤ highest_order) (proper : Every (IsWall highest_order) (cut_walls highest_order given)) where
+  diagram-walls : (n : ℕ) (e : Diagram) → n ≤ highest_order → IsCompletion given n e → Every (IsWall n) (walls e)
   diagram-walls n e le c =
       Every-append (IsWall n) e.initial e.rays
-      (subst (Every (IsWall n)) (cut-cuts n 24 le given ∙ sym c.initial) (every-wall-cut n 24 (cut_walls 24 given) proper)) c.proper
+      (subst (Every (IsWall n)) (cut-cuts n highest_order le given ∙ sym c.initial) (every-wall-cut n highest_order (cut_walls highest_order given) proper)) c.proper
 
-  same-text : (n : ℕ) (e e' : Diagram) (stop : Option (ℕ × StopCause)) (text other : List ℕ) → n ≤ 24 → IsCompletion given n e → IsCompletion given n e'
+  same-text : (n : ℕ) (e e' : Diagram) (stop : Option (ℕ × StopCause)) (text other : List ℕ) → n ≤ highest_order → IsCompletion given n e → IsCompletion given n e'
       → IsDiagramText vars n e stop text → IsDiagramText vars n e' stop other → text ≡ other
   same-text n e e' stop text other le c c' t t' =
-      let one : e ≡ e' = completion_is_unique (cut_walls 24 given) n 24 e e' le proper (completion-to_cut given 24 n e le c) (completion-to_cut given 24 n e' le c') in
+      let one : e ≡ e' = completion_is_unique (cut_walls highest_order given) n highest_order e e' le proper (completion-to_cut given highest_order n e le c) (completion-to_cut given highest_order n e' le c') in
       text-one vars n n e stop text other (diagram-walls n e le c) t (subst (λ (d : Diagram). IsDiagramText vars n d stop other) (sym one) t')
 
   same : (stop stop' : Option (ℕ × StopCause)) (e e' : Diagram) (text other : List ℕ) → IsFirstStop given order stop → IsFirstStop given order stop'
       → IsCompletion given (last_before order stop) e → IsCompletion given (last_before order stop') e'
       → IsDiagramText vars (last_before order stop) e stop text → IsDiagramText vars (last_before order stop') e' stop' other → Same stop stop' text other
   same stop stop' e e' text other f f' c c' t t' =
-      let s : stop ≡ stop' = first_stop_is_unique (cut_walls 24 given) order 24 stop stop' low proper (first_stop-to_cut given 24 order stop low f) (first_stop-to_cut given 24 order stop' low f') in
-      let le : last_before order stop ≤ 24 = let l = last-low given order stop f in omega (arith, l, low) in
+      let s : stop ≡ stop' = first_stop_is_unique (cut_walls highest_order given) order highest_order stop stop' low proper (first_stop-to_cut given highest_order order stop low f) (first_stop-to_cut given highest_order order stop' low f') in
+      let le : last_before order stop ≤ highest_order = let l = last-low given order stop f in omega (arith, l, low) in
       record {
         stops = s;
         texts =
@@ -79,7 +82,7 @@ module _ (given : List Wall) (order vars : ℕ) (low : order ≤ 24) (proper : E
 pos-one : (m n : ℕ) → pos m ≡ pos n → m ≡ n
 pos-one m n e = cc
 
-completed-one : (order : ℕ) (bytes : List ℕ) (stop stop' : Option (ℕ × StopCause)) (text other : List ℕ) → order ≤ 24 → HasCompleted order stop bytes text → HasCompleted order stop' bytes other → Same stop stop' text other
+completed-one : (order : ℕ) (bytes : List ℕ) (stop stop' : Option (ℕ × StopCause)) (text other : List ℕ) → order ≤ highest_order → HasCompleted order stop bytes text → HasCompleted order stop' bytes other → Same stop stop' text other
 completed-one order bytes stop stop' text other low a b =
     let p = a.completed in
     let q = b.completed in
@@ -100,13 +103,13 @@ limit-one bytes f g order a b =
 -- ---- outcomes by what the bytes are
 
 abbrev IsTooLong : List ℕ → Status → List ℕ → Type 0
-IsTooLong bytes s text = (2 ^ 20 < length bytes) × (s ≡ Limit Bytes) × (text ≡ fault_text (codes "limit" ∷ limit_word Bytes ∷ []))
+IsTooLong bytes s text = (most_bytes < length bytes) × (s ≡ Limit Bytes) × (text ≡ limit_fault_text Bytes)
 
 abbrev IsFaulty : List ℕ → Status → List ℕ → Type 0
-IsFaulty bytes s text = (line : ℕ) × (kind : TextKind) × (length bytes ≤ 2 ^ 20) × IsTextFault bytes line kind × (s ≡ Text line kind) × (text ≡ fault_text (codes "text" ∷ decimal line ∷ kind_word kind ∷ []))
+IsFaulty bytes s text = (line : ℕ) × (kind : TextKind) × (length bytes ≤ most_bytes) × IsTextFault bytes line kind × (s ≡ Text line kind) × (text ≡ bad_text line kind)
 
 abbrev IsLimited : ℕ → List ℕ → Status → List ℕ → Type 0
-IsLimited order bytes s text = (kind : LimitKind) × PassesLimit order kind bytes × (s ≡ Limit kind) × (text ≡ fault_text (codes "limit" ∷ limit_word kind ∷ []))
+IsLimited order bytes s text = (kind : LimitKind) × PassesLimit order kind bytes × (s ≡ Limit kind) × (text ≡ limit_fault_text kind)
 
 abbrev IsDone : ℕ → List ℕ → Status → List ℕ → Type 0
 IsDone order bytes s text = (stop : Option (ℕ × CodeCause)) × HasCompleted order (stop_of stop) bytes text × (s ≡ ends_with stop)
@@ -114,14 +117,14 @@ IsDone order bytes s text = (stop : Option (ℕ × CodeCause)) × HasCompleted o
 abbrev Is : ℕ → List ℕ → Status → List ℕ → Type 0
 Is order bytes s text = IsTooLong bytes s text ⊎ (IsFaulty bytes s text ⊎ (IsLimited order bytes s text ⊎ IsDone order bytes s text))
 
-is : (order : ℕ) (bytes : List ℕ) (s : Status) (text : List ℕ) → IsJobOutcome order bytes s text → Is order bytes s text
+is : (order : ℕ) (bytes : List ℕ) (s : Status) (text : List ℕ) → IsCompleteOutcome order bytes s text → Is order bytes s text
 is order bytes Done text h = inr (inr (inr (None, h, refl)))
 is order bytes Words text h = absurd h
 is order bytes (Text line kind) text h = inr (inl (line, kind, h.short, h.fault, refl, h.says))
 is order bytes (Limit kind) text h = go h.0
   where
-    go : ((kind ≡ Bytes) × (2 ^ 20 < length bytes)) ⊎ PassesLimit order kind bytes → Is order bytes (Limit kind) text
-    go (inl l) = inl (l.1, ap (λ (k : LimitKind). Limit k) l.0, h.1 ∙ ap (λ (k : LimitKind). fault_text (codes "limit" ∷ limit_word k ∷ [])) l.0)
+    go : IsLimitOf order kind bytes → Is order bytes (Limit kind) text
+    go (inl l) = inl (l.1, ap (λ (k : LimitKind). Limit k) l.0, h.1 ∙ ap (λ (k : LimitKind). limit_fault_text k) l.0)
     go (inr p) = inr (inr (inl (kind, p, refl, h.1)))
 is order bytes (Stopped at cause) text h = inr (inr (inr (Some (at, cause), h, refl)))
 is order bytes ReadFault text h = absurd h
@@ -162,21 +165,18 @@ stop-one (Some s) (Some t) e =
     let c : s.1 ≡ t.1 = cause-one s.1 t.1 (ap (λ (x : ℕ × StopCause). x.1) p) in
     λ i. Stopped (n i) (c i)
 
-none-is-some : (k : LimitKind) → None ≡ Some k → ⊥
-none-is-some k e = cc
-
 same-kind : (k j : LimitKind) → Some k ≡ Some j → k ≡ j
 same-kind k j e = cc
 
 -- none of the four kinds of outcome goes with another
 module _ (order : ℕ) (bytes : List ℕ) where
-  long-short : 2 ^ 20 < length bytes → length bytes ≤ 2 ^ 20 → ⊥
+  long-short : most_bytes < length bytes → length bytes ≤ most_bytes → ⊥
   long-short l s = omega (arith, l, s)
 
   limited-done : (kind : LimitKind) (stop : Option (ℕ × StopCause)) (text : List ℕ) → PassesLimit order kind bytes → HasCompleted order stop bytes text → ⊥
-  limited-done kind stop text p c = none-is-some kind (sym c.within ∙ limit-one bytes c.file p.file order c.reads p.reads ∙ p.passed)
+  limited-done kind stop text p c = none-some kind (sym c.within ∙ limit-one bytes c.file p.file order c.reads p.reads ∙ p.passed)
 
-  one : (s t : Status) (text other : List ℕ) → order ≤ 24 → Is order bytes s text → Is order bytes t other → One s t text other
+  one : (s t : Status) (text other : List ℕ) → order ≤ highest_order → Is order bytes s text → Is order bytes t other → One s t text other
   one s t text other low (inl a) (inl b) = record { same-status = a.1 ∙ sym b.1; same-text = a.2 ∙ sym b.2 }
   one s t text other low (inl a) (inr (inl b)) = absurd (long-short a.0 b.2)
   one s t text other low (inl a) (inr (inr (inl b))) = absurd (long-short a.0 b.1.short)
@@ -186,7 +186,7 @@ module _ (order : ℕ) (bytes : List ℕ) where
       let e = fault_is_one bytes a.0 b.0 a.1 b.1 a.3 b.3 in
       record {
         same-status = a.4 ∙ (λ i. Text (e.0 i) (e.1 i)) ∙ sym b.4;
-        same-text = a.5 ∙ (λ i. fault_text (codes "text" ∷ decimal (e.0 i) ∷ kind_word (e.1 i) ∷ [])) ∙ sym b.5;
+        same-text = a.5 ∙ (λ i. bad_text (e.0 i) (e.1 i)) ∙ sym b.5;
       }
   one s t text other low (inr (inl a)) (inr (inr (inl b))) = absurd (text_has_no_fault bytes b.1.file a.0 a.1 b.1.reads a.3)
   one s t text other low (inr (inl a)) (inr (inr (inr b))) = absurd (text_has_no_fault bytes b.1.file a.0 a.1 b.1.reads a.3)
@@ -196,7 +196,7 @@ module _ (order : ℕ) (bytes : List ℕ) where
       let e : a.0 ≡ b.0 = same-kind a.0 b.0 (sym a.1.passed ∙ limit-one bytes a.1.file b.1.file order a.1.reads b.1.reads ∙ b.1.passed) in
       record {
         same-status = a.2 ∙ ap (λ (k : LimitKind). Limit k) e ∙ sym b.2;
-        same-text = a.3 ∙ ap (λ (k : LimitKind). fault_text (codes "limit" ∷ limit_word k ∷ [])) e ∙ sym b.3;
+        same-text = a.3 ∙ ap (λ (k : LimitKind). limit_fault_text k) e ∙ sym b.3;
       }
   one s t text other low (inr (inr (inl a))) (inr (inr (inr b))) = absurd (limited-done a.0 (stop_of b.0) other a.1 b.1)
   one s t text other low (inr (inr (inr a))) (inl b) = absurd (long-short b.0 a.1.short)
@@ -208,13 +208,21 @@ module _ (order : ℕ) (bytes : List ℕ) where
 
 -- ---- outcomes of words
 
+record IsOneJob (job : Job) : Type 0 where
+  one : (bytes : List ℕ) (s t : Status) (text other : List ℕ) → IsJobOutcome job bytes s text → IsJobOutcome job bytes t other → One s t text other
+
+job-one : (words : List (List ℕ)) (job : Job) → AreWordsOf words job → IsOneJob job
+job-one words (Complete order workers) a = record {
+  one = λ bytes s t text other x y. one order bytes s t text other a.order_most (is order bytes s text x) (is order bytes t other y);
+}
+
 abbrev HasNoJob : List (List ℕ) → Status → List ℕ → Type 0
-HasNoJob words s text = ((order workers : ℕ) → IsComplete words order workers → ⊥) × (s ≡ Words) × (text ≡ fault_text (codes "words" ∷ []))
+HasNoJob words s text = NameNoJob words × (s ≡ Words) × (text ≡ words_fault_text)
 
 abbrev HasJob : List (List ℕ) → List ℕ → Status → List ℕ → Type 0
-HasJob words bytes s text = (order workers : ℕ) × IsComplete words order workers × IsJobOutcome order bytes s text
+HasJob words bytes s text = (job : Job) × AreWordsOf words job × IsJobOutcome job bytes s text
 
-job-or-none : (words : List (List ℕ)) (bytes : List ℕ) (s : Status) (text : List ℕ) → IsOutcome words bytes s text → HasNoJob words s text ⊎ HasJob words bytes s text
+job-or-none : (words : List (List ℕ)) (bytes : List ℕ) (s : Status) (text : List ℕ) → IsRunOutcome words bytes s text → HasNoJob words s text ⊎ HasJob words bytes s text
 job-or-none words bytes Done text h = inr h
 job-or-none words bytes Words text h = inl (h.0, refl, h.1)
 job-or-none words bytes (Text line kind) text h = inr h
@@ -224,38 +232,23 @@ job-or-none words bytes ReadFault text h = inr h
 job-or-none words bytes WriteFault text h = inr h
 job-or-none words bytes Memory text h = inr h
 
-pub outcome-one : (words : List (List ℕ)) (bytes : List ℕ) (s t : Status) (text other : List ℕ) → IsOutcome words bytes s text → IsOutcome words bytes t other → (s ≡ t) × (text ≡ other)
+pub outcome-one : (words : List (List ℕ)) (bytes : List ℕ) (s t : Status) (text other : List ℕ)
+    → IsRunOutcome words bytes s text → IsRunOutcome words bytes t other → (s ≡ t) × (text ≡ other)
 outcome-one words bytes s t text other a b = go (job-or-none words bytes s text a) (job-or-none words bytes t other b)
   where
     go : HasNoJob words s text ⊎ HasJob words bytes s text → HasNoJob words t other ⊎ HasJob words bytes t other → (s ≡ t) × (text ≡ other)
     go (inl x) (inl y) = (x.1 ∙ sym y.1, x.2 ∙ sym y.2)
-    go (inl x) (inr y) = absurd (x.0 y.0 y.1 y.2)
-    go (inr x) (inl y) = absurd (y.0 x.0 x.1 x.2)
+    go (inl x) (inr y) = absurd (x.0 y.0 y.1)
+    go (inr x) (inl y) = absurd (y.0 x.0 x.1)
     go (inr x) (inr y) =
-        let e : x.0 ≡ y.0 = same_order words x.0 x.1 y.0 y.1 x.2 y.2 in
-        let o = one x.0 bytes s t text other x.2.order_most (is x.0 bytes s text x.3) (is x.0 bytes t other (subst (λ (n : ℕ). IsJobOutcome n bytes t other) (sym e) y.3)) in
+        let o = (job-one words x.0 x.1).one bytes s t text other x.2 (outcome-same words x.0 y.0 bytes t other x.1 y.1 y.2) in
         (o.same-status, o.same-text)
 
--- ---- what was written is the text of any outcome
-
-pub written-one : (words : List (List ℕ)) (left held after : Option (List ℕ)) (result : Status) → IfSome left (λ bytes. IsVerdict result → HasWritten held after (IsOutcome words bytes result))
-    → IfSome left (λ bytes. IsVerdict result → (s : Status) (text : List ℕ) → IsOutcome words bytes s text → (s ≡ result) × IsWritten held after text)
+-- what was written is the text of any outcome
+pub written-one : (words : List (List ℕ)) (left held after : Option (List ℕ)) (result : Status)
+    → IfSome left (λ bytes. IsVerdict result → HasWritten held after (IsRunOutcome words bytes result)) → IsOnlyOutcome words left held after result
 written-one words None held after result h = tt
 written-one words (Some bytes) held after result h = λ v s text o.
     let w = h v in
     let e = outcome-one words bytes s result text w.0 o w.1 in
     (e.0, subst (λ (t : List ℕ). IsWritten held after t) (sym e.1) w.2)
-
-pub outcome_for : (words : List (List ℕ)) (order workers : ℕ) (left held after : Option (List ℕ)) (result : Status) → IsComplete words order workers
-    → IfSome left (λ bytes. IsVerdict result → HasWritten held after (IsJobOutcome order bytes result))
-    → IfSome left (λ bytes. IsVerdict result → HasWritten held after (IsOutcome words bytes result))
-outcome_for words order workers None held after result c h = tt
-outcome_for words order workers (Some bytes) held after result c h = λ v. let w = h v in (w.0, outcome_of words order workers bytes result w.0 c w.1, w.2)
-
-pub words_outcome : (words : List (List ℕ)) (left held after : Option (List ℕ)) (ks ks' : ℕ) (status result : Status) (text : List ℕ) → ((order workers : ℕ) → IsComplete words order workers → ⊥)
-    → status ≡ Words → text ≡ words_fault_text → IsGiven held after ks ks' status text result
-    → IfSome left (λ bytes. IsVerdict result → HasWritten held after (IsOutcome words bytes result))
-words_outcome words None held after ks ks' status result text none es et g = tt
-words_outcome words (Some bytes) held after ks ks' status result text none es et (inl g) = λ v.
-    (text, subst (λ (s : Status). IsOutcome words bytes s text) (sym (g.0 ∙ es)) (none, et), g.1)
-words_outcome words (Some bytes) held after ks ks' status result text none es et (inr g) = λ v. absurd (subst IsVerdict g.0 v)

@@ -6,8 +6,7 @@ use Rattle.outside_io.specs.Outside.{TakesWhereTold}
 use Rattle.scatter_run.specs.Writing.{IsWritten, IsWrittenSoFar}
 
 written-more : (before mid after : Option (List ℕ)) (part piece : List ℕ) (end n : ℕ) → n ≤ end → IsWritten before mid part → TakesWhereTold mid after (take end piece) n → IsWritten before after (part ++ take n piece)
-written-more None None after part piece end n le w t = t
-written-more None (Some held) after part piece end n le w t = absurd (let e : Some held ≡ None = w in cc)
+written-more None mid after part piece end n le w t = tt
 written-more (Some held) None after part piece end n le w t = absurd (let e : None ≡ Some (held ++ part) = w in cc)
 written-more (Some held) (Some now) after part piece end n le w t =
     let e : now ≡ held ++ part = cc in

@@ -1,5 +1,6 @@
 pub mod Completed
 pub mod Outcome
+pub mod Promise
 pub mod Reading
 pub mod Words
 pub mod Writing

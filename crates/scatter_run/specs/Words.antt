@@ -1,13 +1,24 @@
--- The words after the program's name.
+-- The words after the program's name, and the jobs that they name.
 use Rattle.std.specs.Prelude.{◌≡◌, ℕ, ◌≤◌, List, [], ◌∷◌, map, codes, decimal, String, string_bytes}
 use Rattle.std.specs.declared.alloc.Global.{Global}
+use Rattle.limits.specs.Limits.{highest_order, most_workers}
+use Rattle.scatter_run.specs.declared.words.Job.{Job}
+use Rattle.scatter_run.specs.declared.words.Job.TheVariants.{Complete}
 
 abbrev pub word_bytes : List (String Global) → List (List ℕ)
 word_bytes words = map (λ w. string_bytes w) words
 
 -- `complete ORDER WORKERS`, each number in decimal without a leading zero or a sign
-pub record IsComplete (given : List (List ℕ)) (order workers : ℕ) : Type 0 where
+pub record AreCompleteWords (given : List (List ℕ)) (order workers : ℕ) : Type 0 where
   pub words : given ≡ codes "complete" ∷ decimal order ∷ decimal workers ∷ []
-  pub order_most : order ≤ 24
+  pub order_most : order ≤ highest_order
   pub workers_least : 1 ≤ workers
-  pub workers_most : workers ≤ 16
+  pub workers_most : workers ≤ most_workers
+
+-- the table of words: those of each job
+abbrev pub AreWordsOf : List (List ℕ) → Job → Type 0
+AreWordsOf words (Complete order workers) = AreCompleteWords words order workers
+
+-- the words are those of no job
+abbrev pub NameNoJob : List (List ℕ) → Type 0
+NameNoJob words = (job : Job) → AreWordsOf words job → ⊥

@@ -3,7 +3,7 @@ use Rattle.std.specs.Prelude.{◌≡◌, ◌≢◌, ℕ, List, [], ◌++◌, Opt
 
 -- the sink holds what it held, followed by the text, where it tells
 abbrev pub IsWritten : Option (List ℕ) → Option (List ℕ) → List ℕ → Type 0
-IsWritten None after text = after ≡ None
+IsWritten None after text = Unit {0}
 IsWritten (Some held) after text = after ≡ Some (held ++ text)
 
 abbrev pub IsProperPrefix : List ℕ → List ℕ → Type 0

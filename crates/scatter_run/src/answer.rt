@@ -1,8 +1,7 @@
 //! What `complete` answers on the bytes of its input.
-ghost use Rattle.std.specs.Prelude.{◌≡◌, ◌≤◌, ◌<◌, ◌^◌, length, codes, decimal, [], ◌∷◌, Some, None, IfOk, string_bytes};
-ghost use Rattle.scatter_text.specs.Grammar.{kind_word};
-ghost use Rattle.scatter_text.specs.Limits.{limit_word};
-ghost use Rattle.scatter_run.specs.Outcome.{fault_text, IsJobOutcome};
+ghost use Rattle.std.specs.Prelude.{◌≡◌, ◌≤◌, length, IfOk, string_bytes};
+ghost use Rattle.limits.specs.Limits.{highest_order, most_bytes};
+ghost use Rattle.scatter_run.specs.Outcome.{IsCompleteOutcome, bad_text, limit_fault_text};
 
 use crate::completing::complete;
 use crate::status::Status;
@@ -13,26 +12,26 @@ use std::alloc::{AllocError, Global};
 #[derive(Drop)]
 pub(crate) struct Answer {
     pub(crate) status: Status,
-    pub(crate) text: String,
+    pub(crate) text: Vec<u8>,
 }
 
 /// What `complete` answers on these bytes.
 pub(crate) fn answer_to(alloc: Global, order: u32, bytes: &[u8]) -> Result<Answer, AllocError>
-    requires short { length bytes.now ≤ 2 ^ 20 }
-    requires order { order ≤ 24 }
-    ensures { IfOk result (λ a. IsJobOutcome order bytes.now a.status (string_bytes a.text)) }
+    requires short { length bytes.now ≤ most_bytes }
+    requires order { order ≤ highest_order }
+    ensures { IfOk result (λ a. IsCompleteOutcome order bytes.now a.status a.text.items) }
 {
     match read_text(alloc, bytes) {
         Ok(file) => match check_limits(&file, order) {
             None => complete(alloc, &file, order),
             Some(which) => Ok(Answer {
                 status: Status::Limit { which },
-                text: limit_fault(alloc, which)?,
+                text: limit_fault(alloc, which)?.into_bytes(),
             }),
         },
         Err(TextFault::Bad { line, kind }) => Ok(Answer {
             status: Status::Text { line, kind },
-            text: text_fault(alloc, line, kind)?,
+            text: text_fault(alloc, line, kind)?.into_bytes(),
         }),
         Err(TextFault::Memory) => Err(AllocError),
     }
@@ -40,7 +39,7 @@ pub(crate) fn answer_to(alloc: Global, order: u32, bytes: &[u8]) -> Result<Answe
 
 /// The line of a bad text.
 fn text_fault(alloc: Global, line: u32, kind: TextKind) -> Result<String, AllocError>
-    ensures { IfOk result (λ text. string_bytes text ≡ fault_text (codes "text" ∷ decimal line ∷ kind_word kind ∷ [])) }
+    ensures { IfOk result (λ text. string_bytes text ≡ bad_text line kind) }
 {
     let mut text = String::from_str(alloc, "fault text")?;
     write!(&mut text, " {line}")?;
@@ -51,8 +50,8 @@ fn text_fault(alloc: Global, line: u32, kind: TextKind) -> Result<String, AllocE
 }
 
 /// The line of a limit that is passed.
-pub(crate) fn limit_fault(alloc: Global, which: LimitKind) -> Result<String, AllocError>
-    ensures { IfOk result (λ text. string_bytes text ≡ fault_text (codes "limit" ∷ limit_word which ∷ [])) }
+fn limit_fault(alloc: Global, which: LimitKind) -> Result<String, AllocError>
+    ensures { IfOk result (λ text. string_bytes text ≡ limit_fault_text which) }
 {
     let word = which.word();
     format!(in alloc; "fault limit {word}\n")

@@ -1,5 +1,6 @@
 //! The job `complete` on the values of a file.
-ghost use Rattle.std.specs.Prelude.{◌≡◌, ◌≤◌, None, IfOk, string_bytes};
+ghost use Rattle.std.specs.Prelude.{◌≡◌, ◌≤◌, None, IfOk};
+ghost use Rattle.limits.specs.Limits.{highest_order};
 ghost use Rattle.scatter_text.specs.Limits.{limit_of};
 ghost use Rattle.scatter_run.specs.Outcome.{IsEnded, ends_with};
 
@@ -22,9 +23,9 @@ fn status_of(stop: Option<(u32, StopCause)>) -> Status
 
 /// What `complete` answers on a file that passes no limit.
 pub(crate) fn complete(alloc: Global, file: &TextFile, order: u32) -> Result<Answer, AllocError>
-    requires order { order ≤ 24 }
+    requires order { order ≤ highest_order }
     requires within { limit_of file.now order ≡ None }
-    ensures { IfOk result (λ a. IsEnded file.now order a.status (string_bytes a.text)) }
+    ensures { IfOk result (λ a. IsEnded file.now order a.status a.text.items) }
 {
     let initial = initial_of(alloc, file)?;
     let outcome = complete_plain(alloc, &initial, order)?;

@@ -13,6 +13,3 @@ mod writing;
 pub use jobs::{complete_job, run};
 pub use laws::one_outcome;
 pub use status::Status;
-
-#[cfg(test)]
-mod tests;

@@ -1,13 +1,12 @@
 //! Reads the input to its end.
-ghost use Rattle.std.specs.Prelude.{◌≡◌, ◌≤◌, ◌<◌, ◌^◌, length, IfOk, IfSome, Err};
+ghost use Rattle.std.specs.Prelude.{◌≡◌, ◌≤◌, length, IfOk, OnOk, Err};
+ghost use Rattle.limits.specs.Limits.{most_bytes};
 ghost use Rattle.outside_io.specs.Outside.{Rose};
-ghost use Rattle.scatter_run.specs.Reading.{IsReadWhole};
+ghost use Rattle.scatter_run.specs.Reading.{IsReadWhole, IsTooLong};
 
+use limits::MOST_BYTES;
 use outside_io::Source;
 use std::alloc::Global;
-
-/// The most bytes that an input may have.
-const MAX_BYTES: usize = 1 << 20;
 
 /// The most bytes that one read asks for.
 const PIECE: usize = 4096;
@@ -20,17 +19,21 @@ pub(crate) enum InputFault {
     Memory,
 }
 
-/// All bytes that the source has left, at most `MAX_BYTES` of them.
+/// All bytes that the source has left, at most `MOST_BYTES` of them.
 pub(crate) fn read_input<S: Source>(alloc: Global, source: &mut S) -> Result<Vec<u8>, InputFault>
-    ensures whole { IfOk result (λ bytes. IsReadWhole (S.left source.old) (S.left source.new) bytes.items) }
-    ensures short { IfOk result (λ bytes. length bytes.items ≤ 2 ^ 20) }
-    ensures long { result ≡ Err InputFault.TooLong → IfSome (S.left source.old) (λ left. 2 ^ 20 < length left) }
+    ensures whole { IfOk result (λ b. IsReadWhole (S.left source.old) (S.left source.new) b.items) }
+    ensures short { IfOk result (λ bytes. length bytes.items ≤ most_bytes) }
+    ensures long { result ≡ Err InputFault.TooLong → IsTooLong (S.left source.old) }
+
+    // The source failed exactly where that is told.
     ensures failed { result ≡ Err InputFault.Failed → Rose (S.faults source.old) (S.faults source.new) }
+    ensures memory { result ≡ Err InputFault.Memory → S.faults source.new ≡ S.faults source.old }
+    ensures kept { OnOk result (S.faults source.new ≡ S.faults source.old) }
     ensures later { S.faults source.old ≤ S.faults source.new }
 {
     let mut bytes = Vec::new(alloc);
     let mut piece = [0u8; PIECE];
-    while bytes.len() <= MAX_BYTES {
+    while bytes.len() <= MOST_BYTES {
         let Ok(taken) = source.read(&mut piece) else {
             return Err(InputFault::Failed);
         };

@@ -1,20 +1,21 @@
 //! Reads the words after the program's name.
 ghost use Rattle.std.specs.Prelude.{◌≡◌, ◌≤◌, ◌<◌, ℕ, IfSome, IfNone, IsTrue, ◌↔◌, codes, decimal};
-ghost use Rattle.scatter_run.specs.Words.{IsComplete, word_bytes};
+ghost use Rattle.scatter_run.specs.Words.{AreWordsOf, NameNoJob, word_bytes};
 
 use itoa::Buffer;
+use limits::{HIGHEST_ORDER, MOST_WORKERS};
 
-/// `complete ORDER WORKERS`.
+/// The jobs that words can name.
 #[derive(Clone, Copy, Debug, PartialEq, Eq)]
-pub(crate) struct Complete {
-    pub(crate) order: u32,
-    pub(crate) workers: u32,
+pub(crate) enum Job {
+    /// `complete ORDER WORKERS`.
+    Complete { order: u32, workers: u32 },
 }
 
 /// The job that the words name, or None where they aren't in the table.
-pub(crate) fn read_words(words: &[String]) -> Option<Complete>
-    ensures job { IfSome result (λ job. IsComplete (word_bytes words.now) job.order job.workers) }
-    ensures none { IfNone result ((order workers : ℕ) → IsComplete (word_bytes words.now) order workers → ⊥) }
+pub(crate) fn read_words(words: &[String]) -> Option<Job>
+    ensures job { IfSome result (λ job. AreWordsOf (word_bytes words.now) job) }
+    ensures none { IfNone result (NameNoJob (word_bytes words.now)) }
 {
     let [job, order, workers] = words else {
         return None;
@@ -22,9 +23,9 @@ pub(crate) fn read_words(words: &[String]) -> Option<Complete>
     if !names_complete(job.as_str()) {
         return None;
     }
-    let order = read_number(order.as_str(), 0, 25)?;
-    let workers = read_number(workers.as_str(), 1, 17)?;
-    Some(Complete { order, workers })
+    let order = read_number(order.as_str(), 0, HIGHEST_ORDER + 1)?;
+    let workers = read_number(workers.as_str(), 1, MOST_WORKERS + 1)?;
+    Some(Job::Complete { order, workers })
 }
 
 /// Whether the word is that of the job `complete`.

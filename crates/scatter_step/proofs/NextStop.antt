@@ -6,7 +6,7 @@ use Rattle.scattering.specs.Completion.{IsCompletion}
 use Rattle.scattering.specs.Stops.{StopCause, PointTooLarge, WeightTooLarge, TooManyWalls, AllNear, SomeFar, AllLight, SomeHeavy, StopsAfter, IsStopAt}
 use Rattle.scatter_diagram.specs.Listed.{SeenInitial}
 use Rattle.scatter_step.specs.Completed.{SeenCompleted, IsCompleted}
-use Rattle.scatter_step.specs.Orders.{IsNext, HasManyWalls}
+use Rattle.scatter_step.specs.Orders.{IsNextCompletion, HasManyWalls}
 use Rattle.scatter_step.proofs.NextOrder.{unraised}
 
 module _ (c : SeenCompleted) (h : IsCompleted c) where
@@ -26,7 +26,7 @@ module _ (c : SeenCompleted) (h : IsCompleted c) where
       pub stops-many : (k : StopCause) → k ≡ TooManyWalls → HasManyWalls c.initial.lines (c.order + 1) → IsStopAt c.initial.lines (c.order + 1) (Some k)
       stops-many k q m = subst (λ (k : StopCause). IsStopAt c.initial.lines (c.order + 1) (Some k)) (sym q) (stops-next (Some TooManyWalls) (near, light, m))
 
-      pub stops-not : (d : SeenCompleted) → IsNext c d → IsCompleted d → IsStopAt c.initial.lines (c.order + 1) None
+      pub stops-not : (d : SeenCompleted) → IsNextCompletion c d → IsCompleted d → IsStopAt c.initial.lines (c.order + 1) None
       stops-not d i k =
           stops-next None (
             near,

@@ -9,7 +9,7 @@ use Rattle.scatter_diagram.specs.Listed.{SeenInitial}
 use Rattle.scatter_diagram.specs.Stopped.{cause_of}
 use Rattle.scatter_diagram.specs.declared.stop.StopCause.{StopCause as CodeCause}
 use Rattle.scatter_step.specs.Completed.{SeenCompleted, IsCompleted}
-use Rattle.scatter_step.specs.Orders.{IsNext, IsOutcome}
+use Rattle.scatter_step.specs.Orders.{IsNextCompletion, IsOutcome}
 use Rattle.scatter_step.proofs.Uniqueness.{completion-is-one}
 
 -- c is the completion of order k, and no order up to it is stopped
@@ -31,7 +31,7 @@ reached-first i c p q h = record {
 stop-read : (i : SeenInitial) (k : ℕ) (c : SeenCompleted) (s : Option StopCause) → IsReached i k c → IsStopAt c.initial.lines (c.order + 1) s → IsStopAt i.lines (k + 1) s
 stop-read i k c s h a = subst (λ (n : ℕ). IsStopAt i.lines (n + 1) s) h.order (subst (λ (j : SeenInitial). IsStopAt j.lines (c.order + 1) s) h.initial a)
 
-pub reached-next : (i : SeenInitial) (k : ℕ) (c d : SeenCompleted) → IsReached i k c → IsNext c d → IsCompleted d → IsStopAt c.initial.lines (c.order + 1) None → IsReached i (k + 1) d
+pub reached-next : (i : SeenInitial) (k : ℕ) (c d : SeenCompleted) → IsReached i k c → IsNextCompletion c d → IsCompleted d → IsStopAt c.initial.lines (c.order + 1) None → IsReached i (k + 1) d
 reached-next i k c d h n g a = record {
   initial = n.0 ∙ h.initial;
   order = let q = n.1 in let r = h.order in omega (arith, q, r);

@@ -1,6 +1,7 @@
 // Completion to an order, or to the last one before a stop.
 
-ghost use Rattle.std.specs.Prelude.{◌≤◌, IfOk};
+ghost use Rattle.std.specs.Prelude.{◌≡◌, ◌≤◌, IfOk};
+ghost use Rattle.limits.specs.Limits.{highest_order};
 ghost use Rattle.scatter_step.specs.Orders.{IsOutcome};
 
 use crate::Completed;
@@ -14,10 +15,21 @@ pub struct Outcome {
     pub stop: Option<(u32, StopCause)>,
 }
 
+impl Outcome {
+    pub fn copy(&self) -> Result<Outcome, AllocError>
+        ensures { IfOk result (λ o. o ≡ self.now) }
+    {
+        Ok(Outcome {
+            last: self.last.copy()?,
+            stop: self.stop,
+        })
+    }
+}
+
 /// The completion of the lines at `order`, or at the order before the first that is stopped. It is the
 /// only one of its order.
 pub fn complete_plain(alloc: Global, initial: &Initial, order: u32) -> Result<Outcome, AllocError>
-    requires { order ≤ 24 }
+    requires { order ≤ highest_order }
     ensures { IfOk result (λ o. IsOutcome initial.now order o) }
 {
     let mut last = Completed::start(alloc, initial)?;

@@ -1,20 +1,23 @@
 // Initial lines with their completion at an order.
 
 ghost use Rattle.std.specs.Prelude.{◌≡◌, ◌≤◌, IfOk, length};
+ghost use Rattle.limits.specs.Limits.{highest_order, most_walls};
 ghost use Rattle.scattering.specs.Wall.{walls};
 ghost use Rattle.scattering.specs.Completion.{IsCompletion};
-ghost use Rattle.scatter_step.specs.Completed.{IsCompleted};
+ghost use Rattle.scatter_diagram.specs.Proper.{AreTameWalls};
+ghost use Rattle.scatter_step.specs.Completed.{IsCompleted, with_lines};
 
 use scatter_diagram::{Diagram, Initial, cut_walls};
 use std::alloc::{AllocError, Global};
 use std::marker::Model;
+use std::sync::Arc;
 
 /// Initial lines and a diagram, which is their completion at its order, from 0 to 24, and has at most
-/// 8192 walls.
+/// 8192 walls. The lines are shared with the completions of other orders that come from this one.
 #[derive(Drop)]
 pub struct Completed {
     alloc: Global,
-    initial: Initial,
+    initial: Arc<Initial, Global>,
     diagram: Diagram,
 }
 
@@ -23,9 +26,9 @@ impl Model for Completed {
 
     ghost Value = { SeenCompleted };
 
-    ghost view = { λ c. record { initial = c.initial; order = c.diagram.order; diagram = c.diagram.diagram } };
+    ghost view = { λ c. record { initial = c.initial.value; order = c.diagram.order; diagram = c.diagram.diagram } };
 
-    ghost invariant = { λ c. IsCompleted (record { initial = c.initial; order = c.diagram.order; diagram = c.diagram.diagram }) };
+    ghost invariant = { λ c. IsCompleted (record { initial = c.initial.value; order = c.diagram.order; diagram = c.diagram.diagram }) };
 }
 
 impl Completed {
@@ -39,21 +42,21 @@ impl Completed {
         let diagram = Diagram::from_walls(alloc, 0, lines, Vec::new(alloc))?;
         Ok(Completed {
             alloc,
-            initial: initial.copy()?,
+            initial: Arc::new(alloc, initial.copy()?)?,
             diagram,
         })
     }
 
     /// The same lines with another completion.
     pub(crate) fn with_diagram(&self, diagram: Diagram) -> Result<Completed, AllocError>
-        requires order { diagram.order ≤ 24 }
+        requires order { diagram.order ≤ highest_order }
         requires completes { IsCompletion self.now.initial.lines diagram.order diagram.diagram }
-        requires few { length (walls diagram.diagram) ≤ 8192 }
-        ensures { IfOk result (λ c. c ≡ record { initial = self.now.initial; order = diagram.order; diagram = diagram.diagram }) }
+        requires few { length (walls diagram.diagram) ≤ most_walls }
+        ensures { IfOk result (λ c. c ≡ with_lines self.now.initial diagram) }
     {
         Ok(Completed {
             alloc: self.alloc,
-            initial: self.initial.copy()?,
+            initial: Arc::try_clone(&self.initial)?,
             diagram,
         })
     }
@@ -64,7 +67,8 @@ impl Completed {
 
     pub fn order(&self) -> u32
         ensures value { result ≡ self.now.order }
-        ensures bound { result ≤ 24 }
+        ensures bound { result ≤ highest_order }
+        ensures tame { AreTameWalls (walls self.now.diagram) }
         ensures completed { IsCompleted self.now }
     {
         self.diagram.order()
@@ -89,7 +93,7 @@ impl Completed {
     {
         Ok(Completed {
             alloc: self.alloc,
-            initial: self.initial.copy()?,
+            initial: Arc::try_clone(&self.initial)?,
             diagram: self.diagram.copy()?,
         })
     }

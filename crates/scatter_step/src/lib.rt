@@ -7,11 +7,9 @@
 mod complete;
 mod completed;
 mod laws;
+mod shared;
 mod step;
 
 pub use complete::{Outcome, complete_plain};
 pub use completed::Completed;
 pub use laws::{completions_are_unique, truncations_complete};
-
-#[cfg(test)]
-mod tests;

@@ -8,8 +8,8 @@ use Rattle.scattering.specs.Series.{Exp, Powers, Key, Term, IsMultiple, degree, 
 use Rattle.scattering.specs.Plane.{IsDirection}
 use Rattle.scatter_diagram.specs.Proper.{IsTame, same-multiple}
 use Rattle.scatter_text.specs.declared.file.TermRow.{TermRow}
-use Rattle.scatter_text.specs.Values.{IsTerm, AreAlike}
-use Rattle.scatter_text.specs.GivenWalls.{power_at, powers_at, term_of, sum_given}
+use Rattle.scatter_text.specs.Values.{IsTermRow, AreAlike}
+use Rattle.scatter_text.specs.GivenWalls.{power_at, powers_at, term_given, sum_given}
 use Rattle.scatter_text.proofs.RowPowers.{row-total, some-power}
 
 -- ---- the powers tell the row
@@ -66,35 +66,35 @@ every-map P Q f (x ∷ xs) i h = (i x h.0, every-map P Q f xs i h.1)
 
 -- a term of the function, in eight variables at most, with small numbers
 pub record IsSmall (d : Exp) (t : TermRow) : Type 0 where
-  pub term : IsTerm t
+  pub term : IsTermRow t
   pub count : length t.powers ≤ 8
   pub coefficient : nat_abs t.c ≤ 2147483647
   pub x : nat_abs t.j * nat_abs d.a ≤ 64
   pub y : nat_abs t.j * nat_abs d.b ≤ 64
 
 module _ (d : Exp) (direction : IsDirection d) where
-  pub some-degree : (t : TermRow) → IsSmall d t → 1 ≤ degree (term_of d t).0
+  pub some-degree : (t : TermRow) → IsSmall d t → 1 ≤ degree (term_given d t).0
   some-degree t h = let e = row-total t.powers h.count in let s = some-power t.powers h.term.some_power in omega (arith, e, s)
 
-  not-unit : (t : TermRow) → IsSmall d t → unit ≢ (term_of d t).0
-  not-unit t h e = let l = some-degree t h in let z : 0 ≡ degree (term_of d t).0 = ap degree e in omega (arith, l, z)
+  not-unit : (t : TermRow) → IsSmall d t → unit ≢ (term_given d t).0
+  not-unit t h e = let l = some-degree t h in let z : 0 ≡ degree (term_given d t).0 = ap degree e in omega (arith, l, z)
 
-  apart : (s t : TermRow) → IsSmall d s → IsSmall d t → length s.powers ≡ length t.powers → ¬ AreAlike s t → (term_of d s).0 ≢ (term_of d t).0
+  apart : (s t : TermRow) → IsSmall d s → IsSmall d t → length s.powers ≡ length t.powers → ¬ AreAlike s t → (term_given d s).0 ≢ (term_given d t).0
   apart s t hs ht n differ e =
       differ (same-multiple d direction s.j t.j (ap (λ (k : Key). k.exp) e), same-rows s.powers t.powers n hs.count hs.term.no_negative_power ht.term.no_negative_power (ap (λ (k : Key). k.powers) e))
 
-  terms-apart : (n : ℕ) (ts : List TermRow) → Every (IsSmall d) ts → All (λ t. length t.powers ≡ n) ts → AllPairs (λ s t. ¬ AreAlike s t) ts → EveryPair (λ t u. t.0 ≢ u.0) (map (term_of d) ts)
+  terms-apart : (n : ℕ) (ts : List TermRow) → Every (IsSmall d) ts → All (λ t. length t.powers ≡ n) ts → AllPairs (λ s t. ¬ AreAlike s t) ts → EveryPair (λ t u. t.0 ≢ u.0) (map (term_given d) ts)
   terms-apart n [] h c p = tt
   terms-apart n (t ∷ ts) h c p =
       (first ts h.1 (later-all (λ u. length u.powers ≡ n) t ts c) (first-pairs (λ s u. ¬ AreAlike s u) t ts p), terms-apart n ts h.1 (later-all (λ u. length u.powers ≡ n) t ts c) (later-pairs (λ s u. ¬ AreAlike s u) t ts p))
     where
-      first : (us : List TermRow) → Every (IsSmall d) us → All (λ u. length u.powers ≡ n) us → All (λ u. ¬ AreAlike t u) us → Every (λ u. (term_of d t).0 ≢ u.0) (map (term_of d) us)
+      first : (us : List TermRow) → Every (IsSmall d) us → All (λ u. length u.powers ≡ n) us → All (λ u. ¬ AreAlike t u) us → Every (λ u. (term_given d t).0 ≢ u.0) (map (term_given d) us)
       first [] k m q = tt
       first (u ∷ us) k m q =
           (apart t u h.0 k.0 (c 0 t (omega arith) ∙ sym (m 0 u (omega arith))) (q 0 u (omega arith)), first us k.1 (later-all (λ v. length v.powers ≡ n) u us m) (later-all (λ v. ¬ AreAlike t v) u us q))
 
   pub sum-apart : (n : ℕ) (ts : List TermRow) → Every (IsSmall d) ts → All (λ t. length t.powers ≡ n) ts → AllPairs (λ s t. ¬ AreAlike s t) ts → EveryPair (λ t u. t.0 ≢ u.0) (sum_given d ts)
-  sum-apart n ts h c p = (every-map (λ u. unit ≢ u.0) (IsSmall d) (term_of d) ts not-unit h, terms-apart n ts h c p)
+  sum-apart n ts h c p = (every-map (λ u. unit ≢ u.0) (IsSmall d) (term_given d) ts not-unit h, terms-apart n ts h c p)
 
   -- what each term of the sum has
   pub record IsGiven (t : Term) : Type 0 where
@@ -106,11 +106,11 @@ module _ (d : Exp) (direction : IsDirection d) where
   unit-given : IsGiven (unit, pos 1)
   unit-given = record { nonzero = λ e. omega (arith, ints, e); small = omega arith; tame = (omega arith, omega arith); form = inl refl }
 
-  term-given : (t : TermRow) → IsSmall d t → IsGiven (term_of d t)
+  term-given : (t : TermRow) → IsSmall d t → IsGiven (term_given d t)
   term-given t h =
       let l = some-degree t h in
       let a = unsigned_abs-mul t.j d.a in let b = unsigned_abs-mul t.j d.b in let x = h.x in let y = h.y in
       record { nonzero = h.term.coefficient; small = h.coefficient; tame = (omega (arith, l, a, x), omega (arith, l, b, y)); form = inr (l, (t.j, h.term.multiple, refl)) }
 
   pub sum-each : (ts : List TermRow) → Every (IsSmall d) ts → Every IsGiven (sum_given d ts)
-  sum-each ts h = (unit-given, every-map IsGiven (IsSmall d) (term_of d) ts term-given h)
+  sum-each ts h = (unit-given, every-map IsGiven (IsSmall d) (term_given d) ts term-given h)

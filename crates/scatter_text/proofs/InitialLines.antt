@@ -13,7 +13,7 @@ use Rattle.scatter_text.specs.declared.file.LineRow.{LineRow}
 use Rattle.scatter_text.specs.declared.file.TextFile.{TextFile}
 use Rattle.scatter_text.specs.Limits.{IsWithinLimits, has_many_lines, has_many_terms, has_large_coefficient, has_large_exponent, has_large_power, is_far}
 use Rattle.scatter_text.specs.GivenWalls.{IsWallOf}
-use Rattle.scatter_text.specs.LimitedLines.{IsLimitedLine, IsLineOf}
+use Rattle.scatter_text.specs.LimitedLines.{IsLimitedLine, IsCutLineOf}
 use Rattle.scatter_text.proofs.WithinLimits.{any-none, not-less, vars-few}
 use Rattle.scatter_text.proofs.ProperFunctions.{cut-is-wall}
 
@@ -62,7 +62,7 @@ zip-length R (a ∷ xs) (b ∷ ys) h = ap suc (zip-length R xs ys h.1)
 pub none-said : AreSaid [] []
 none-said = record { given = []; says = tt; walls = refl; lines = record { order = tt; lines = tt } }
 
-pub said-more : (rows : List LineRow) (ws : List CodeWall) (i : ℕ) (row : LineRow) (w : CodeWall) → i < length rows → row ≡ get_or rows i row → AreSaid (take i rows) ws → IsLineOf row w → AreSaid (take (i + 1) rows) (ws ++ w ∷ [])
+pub said-more : (rows : List LineRow) (ws : List CodeWall) (i : ℕ) (row : LineRow) (w : CodeWall) → i < length rows → row ≡ get_or rows i row → AreSaid (take i rows) ws → IsCutLineOf row w → AreSaid (take (i + 1) rows) (ws ++ w ∷ [])
 said-more rows ws i row w l is h k = subst (λ (rs : List LineRow). AreSaid rs (ws ++ w ∷ [])) (sym (take_more rows i row l ∙ ap (λ (r : LineRow). take i rows ++ r ∷ []) (sym is))) (record {
   given = h.given ++ k.given ∷ [];
   says = zip-push IsWallOf (take i rows) h.given row k.given h.says k.says;

@@ -1,11 +1,11 @@
 pub mod Divisors
 pub mod Binomials
 pub mod Cuts
-pub mod Numbers
-pub mod Coordinates
+pub mod Spelling
 pub mod Tokens
 pub mod Lines
 pub mod StageRows
+pub mod KnownTerms
 pub mod Texts
 pub mod RowTexts
 pub mod Validity
@@ -26,5 +26,6 @@ pub mod OrderedSums
 pub mod GivenFunctions
 pub mod ProperFunctions
 pub mod InitialLines
-pub mod AlongSeries
+pub mod SortedRows
+pub mod WallRows
 pub mod PrintedWalls

@@ -8,14 +8,12 @@ use Rattle.scattering.specs.Stops.{StopCause}
 use Rattle.scattering.proofs.Lists.{Every-left, Every-right}
 use Rattle.plane_theory.proofs.LowestTerms.{same-point}
 use Rattle.plane_theory.proofs.Directions.{direction-not_origin}
-use Rattle.frac_128.specs.Quotient.{IsLowest as IsLowestPair}
 use Rattle.frac_128.proofs.Lowest.{lowest-unique, across}
 use Rattle.scatter_text.specs.declared.file.Coordinate.{Coordinate}
 use Rattle.scatter_text.specs.declared.file.LineRow.{LineRow}
-use Rattle.scatter_text.specs.Values.{IsCoordinate, IsLine, AreLines}
-use Rattle.scatter_text.specs.DiagramText.{IsLowest, IsWallText, AreWallTexts, IsDiagramText, row_text, heading_text, opening_text, closing_text}
+use Rattle.scatter_text.specs.Values.{IsLine, AreLineRows}
+use Rattle.scatter_text.specs.DiagramText.{IsRatioOf, IsWallText, AreWallTexts, IsDiagramText, row_text, heading_text, opening_text, closing_text}
 use Rattle.scatter_text.specs.GivenWalls.{IsWallOf}
-use Rattle.scatter_text.proofs.Divisors.{coprime-direction}
 use Rattle.scatter_text.proofs.OneRows.{rows-unique}
 
 wall-one : (row : LineRow) (w u : Wall) → pos 1 ≤ℤ row.x.den → pos 1 ≤ℤ row.y.den → IsWallOf row w → IsWallOf row u → w ≡ u
@@ -26,7 +24,7 @@ wall-one row w u hx hy a b =
     let f = a.function ∙ sym b.function in
     λ i. record { kind = k i; at = p i; dir = d i; function = f i }
 
-pub walls-one : (vars : ℤ) (rows : List LineRow) (ws us : List Wall) → AreLines vars rows → AllZip IsWallOf rows ws → AllZip IsWallOf rows us → ws ≡ us
+pub walls-one : (vars : ℤ) (rows : List LineRow) (ws us : List Wall) → AreLineRows vars rows → AllZip IsWallOf rows ws → AllZip IsWallOf rows us → ws ≡ us
 walls-one vars [] [] [] h a b = refl
 walls-one vars [] [] (u ∷ us) h a b = absurd b
 walls-one vars [] (w ∷ ws) us h a b = absurd a
@@ -40,12 +38,9 @@ walls-one vars (row ∷ rows) (w ∷ ws) (u ∷ us) h a b =
 
 -- ---- texts
 
-lowest-pair : (q : Coordinate) → IsCoordinate q → IsLowestPair q.num q.den
-lowest-pair q h = record { positive = h.positive; coprime = coprime-direction (record { a = q.num; b = q.den }) h.lowest }
-
-coordinate-one : (x w : ℤ) (q r : Coordinate) → pos 1 ≤ℤ w → IsLowest x w q → IsLowest x w r → q ≡ r
+coordinate-one : (x w : ℤ) (q r : Coordinate) → pos 1 ≤ℤ w → IsRatioOf x w q → IsRatioOf x w r → q ≡ r
 coordinate-one x w q r h a b =
-    let n = lowest-unique q.num q.den r.num r.den (lowest-pair q a.coordinate) (lowest-pair r b.coordinate) (across q.num q.den r.num r.den x w h a.same b.same) in
+    let n = lowest-unique q.num q.den r.num r.den a.coordinate b.coordinate (across q.num q.den r.num r.den x w h a.same b.same) in
     λ i. record { num = n.num i; den = n.den i }
 
 wall_text-one : (word : List ℕ) (vars n : ℕ) (w : Wall) (text other : List ℕ) → IsWall n w → IsWallText word vars w text → IsWallText word vars w other → text ≡ other

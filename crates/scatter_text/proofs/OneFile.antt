@@ -8,6 +8,7 @@ use Rattle.scatter_text.specs.declared.file.TextFile.{TextFile}
 use Rattle.scatter_text.specs.declared.grammar.Row.{Row}
 use Rattle.scatter_text.specs.declared.grammar.Row.TheVariants as row
 use Rattle.scatter_text.specs.Grammar.{AreGood, IsGoodLine, IsTextOf, rows_onto, file_rows, vars_of}
+use Rattle.scatter_text.proofs.StageRows.{vars_of-lines}
 use Rattle.scatter_text.proofs.Outcomes.{good_row}
 
 -- ---- the same rows
@@ -69,16 +70,8 @@ lines_back rows (l ∷ lines) later =
 file_lines : (file : TextFile) → lines_before (file_rows file) [] [] ≡ file.lines
 file_lines file = lines_back (row.Vars file.vars ∷ row.Scatter (pos 1) ∷ []) file.lines [] ∙ append-nil file.lines
 
-vars_under_terms : (rows : List Row) (terms : List TermRow) → vars_of (fold (λ rows term. row.Term term ∷ rows) rows terms) ≡ vars_of rows
-vars_under_terms rows [] = refl
-vars_under_terms rows (t ∷ terms) = vars_under_terms (row.Term t ∷ rows) terms
-
-vars_under_lines : (rows : List Row) (lines : List LineRow) → vars_of (fold rows_onto rows lines) ≡ vars_of rows
-vars_under_lines rows [] = refl
-vars_under_lines rows (l ∷ lines) = vars_under_lines (rows_onto rows l) lines ∙ vars_under_terms (row.Line l.dx l.dy l.x l.y ∷ rows) l.terms
-
 file_vars : (file : TextFile) → vars_of (file_rows file) ≡ file.vars
-file_vars file = vars_under_lines (row.Vars file.vars ∷ row.Scatter (pos 1) ∷ []) file.lines
+file_vars file = vars_of-lines (row.Vars file.vars ∷ row.Scatter (pos 1) ∷ []) file.lines
 
 pub file_is_one : (bytes : List ℕ) (f g : TextFile) → IsTextOf bytes f → IsTextOf bytes g → (f.vars ≡ g.vars) × (f.lines ≡ g.lines)
 file_is_one bytes f g h k =

@@ -1,49 +1,31 @@
 -- The rows that are printed of a wall are determined: they rise, and their coefficients are the function's.
-use Rattle.std.proofs.Common.{◌≡◌, ◌≢◌, ℕ, suc, zero, refl, sym, ◌∙◌, ap, subst, List, [], ◌∷◌, map, Bool, true, false, inl, inr, ◌⊎◌, arith}
-use Rattle.std.specs.Prelude.{ℤ, pos, negsuc, cond, ◌||◌, ◌&&◌, ◌==◌, nat_lt, IsTrue, ◌*ℤ◌, ◌+ℤ◌}
+use Rattle.std.proofs.Common.{◌≡◌, ◌≢◌, ℕ, refl, sym, ◌∙◌, ap, subst, List, [], ◌∷◌, map, Bool, true, false, inl, inr, ◌⊎◌}
+use Rattle.std.specs.Prelude.{ℤ, pos, cond, ◌||◌, ◌&&◌, ◌==◌, nat_lt, IsTrue, ◌+ℤ◌}
 use Rattle.scattering.specs.Collections.{In, Every, EveryPair}
 use Rattle.scattering.specs.Series.{Exp, Powers, Key, Term, origin, coef, key_eq, powers_before, scale}
 use Rattle.scattering.specs.Wall.{Wall}
 use Rattle.scattering.proofs.Lists.{Every-at, Every-implies}
 use Rattle.scattering.proofs.Keys.{key_eq-same, key_eq-refl}
-use Rattle.plane_theory.proofs.StrictOrder.{sorted-unique, key_before-asym, two-asym, bool_cases}
+use Rattle.scattering.proofs.StrictOrders.{sorted-unique, two-asym}
+use Rattle.scattering.proofs.Tests.{bool_cases}
 use Rattle.plane_theory.proofs.Directions.{cancel}
+use Rattle.scattering.proofs.KeyOrder.{powers_before-asym}
+use Rattle.scattering.proofs.Tests.{is-true, nat_lt-asym, nat_eq-same}
+use Rattle.sum_algebra.proofs.Integers.{zero-or-not}
 use Rattle.sum_algebra.proofs.Ring.{nought, ring}
-use Rattle.sum_algebra.proofs.IntegerRing.{ints_ring, ◌:+◌, ◌:*◌, X, Y}
+use Rattle.sum_algebra.proofs.IntegerRing.{ints_ring, ◌:+◌, X}
+use Rattle.scatter_text.proofs.Multiples.{swap}
 use Rattle.scatter_text.specs.DiagramText.{Row, row_before, row_term, AreRows}
-
-is-true : (b : Bool) → IsTrue b → b ≡ true
-is-true b h = search
 
 -- ---- the order of rows
 
-abbrev at_origin : Powers → Key
-at_origin p = record { powers = p; exp = origin }
-
-powers-asym : (p q : Powers) → powers_before p q ≡ true → powers_before q p ≡ true → ⊥
-powers-asym p q h k = key_before-asym (at_origin p) (at_origin q) h k
-
-less-asym : (m n : ℕ) → nat_lt m n ≡ true → nat_lt n m ≡ true → ⊥
-less-asym m n p q = grind arith
-
-equal-numbers : (m n : ℕ) → (m == n) ≡ true → m ≡ n
-equal-numbers m n e = grind arith
-
 row_before-asym : (r s : Row) → row_before r s ≡ true → row_before s r ≡ true → ⊥
-row_before-asym r s h k = two-asym nat_lt (λ m n. m == n) powers_before less-asym equal-numbers powers-asym r.j s.j r.powers s.powers h k
+row_before-asym r s h k = two-asym nat_lt (λ m n. m == n) powers_before nat_lt-asym nat_eq-same powers_before-asym r.j s.j r.powers s.powers h k
 
 abbrev Rise : List Row → Type 0
 Rise rows = EveryPair (λ (r s : Row). IsTrue (row_before r s)) rows
 
 -- ---- rows by their keys
-
-zero-or : (x : ℤ) → (x ≡ pos 0) ⊎ (x ≢ pos 0)
-zero-or (pos zero) = inl refl
-zero-or (pos (suc k)) = inr (λ e. cc)
-zero-or (negsuc k) = inr (λ e. cc)
-
-commute : (x y : ℤ) → x *ℤ y ≡ y *ℤ x
-commute x y = ring ints_ring (x ∷ y ∷ []) (X :* Y) (Y :* X) refl
 
 number : (x y : ℕ) → pos x ≡ pos y → x ≡ y
 number x y e = cc
@@ -56,11 +38,11 @@ module _ (d : Exp) (moves : d ≢ origin) where
   terms_of rows = map (row_term d) rows
 
   same-multiple : (m n : ℕ) → scale (pos m) d ≡ scale (pos n) d → m ≡ n
-  same-multiple m n e = go (zero-or d.a) (zero-or d.b)
+  same-multiple m n e = go (zero-or-not d.a) (zero-or-not d.b)
     where
       go : (d.a ≡ pos 0) ⊎ (d.a ≢ pos 0) → (d.b ≡ pos 0) ⊎ (d.b ≢ pos 0) → m ≡ n
-      go (inr a) b = number m n (cancel d.a (pos m) (pos n) a (commute d.a (pos m) ∙ ap (λ (x : Exp). x.a) e ∙ commute (pos n) d.a))
-      go (inl a) (inr b) = number m n (cancel d.b (pos m) (pos n) b (commute d.b (pos m) ∙ ap (λ (x : Exp). x.b) e ∙ commute (pos n) d.b))
+      go (inr a) b = number m n (cancel d.a (pos m) (pos n) a (swap d.a (pos m) ∙ ap (λ (x : Exp). x.a) e ∙ swap (pos n) d.a))
+      go (inl a) (inr b) = number m n (cancel d.b (pos m) (pos n) b (swap d.b (pos m) ∙ ap (λ (x : Exp). x.b) e ∙ swap (pos n) d.b))
       go (inl a) (inl b) = absurd (moves (λ i. record { a = a i; b = b i }))
 
   same-row : (r s : Row) → key_of r ≡ key_of s → r.c ≡ s.c → r ≡ s

@@ -1,5 +1,5 @@
 -- A sum's terms put in the order of their keys: no key stands twice, so they rise, and no coefficient changes.
-use Rattle.std.proofs.Common.{◌≡◌, ◌≢◌, ℕ, refl, sym, ap, ◌∙◌, ◌≤◌, Bool, true, false, [], ◌∷◌, arith}
+use Rattle.std.proofs.Common.{◌≡◌, ◌≢◌, ℕ, refl, sym, ap, ◌∙◌, Bool, true, false, [], ◌∷◌, arith}
 use Rattle.std.specs.Prelude.{ℤ, ◌+ℤ◌, nat_le, IsTrue}
 use Rattle.std.proofs.lemmas.Int.{ints}
 use Rattle.std.proofs.lemmas.List.Elements.{filter-append}
@@ -48,14 +48,3 @@ put-same n t (u ∷ f) k = go (key_before u.0 t.0) (put-same n t f k)
 pub in_order-same : (n : ℕ) (f : Sum) → Same (cut n (in_order before f)) (cut n f)
 in_order-same n [] k = refl
 in_order-same n (t ∷ f) k = put-same n t (in_order before f) k ∙ ap (λ (c : ℤ). coef (cut n (t ∷ [])) k +ℤ c) (in_order-same n f k) ∙ sym (cut-first n t f k)
-
-pub cut-low : (n : ℕ) (f : Sum) → Every (λ t. degree t.0 ≤ n) (cut n f)
-cut-low n [] = tt
-cut-low n (t ∷ f) = go (nat_le (degree t.0) n) refl (cut-low n f)
-  where
-    low : (m : ℕ) → nat_le m n ≡ true → m ≤ n
-    low m e = grind arith
-
-    go : (b : Bool) → nat_le (degree t.0) n ≡ b → Every (λ t. degree t.0 ≤ n) (cut n f) → Every (λ t. degree t.0 ≤ n) (cut n (t ∷ f))
-    go true e h = rw e (low (degree t.0) e, h)
-    go false e h = rw e h

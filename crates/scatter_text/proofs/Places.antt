@@ -1,23 +1,22 @@
 -- A point that isn't far is the near point over the product of the denominators.
 use Rattle.std.proofs.Common.{◌≡◌, ℕ, zero, suc, refl, sym, subst, ap, ◌∙◌, ◌≤◌, ◌^◌, ◌*◌, ◌/◌, arith, to_z, of_z, FitsSigned, ℤ, nat_abs, false, Option, Some, None}
 use Rattle.std.specs.Prelude.{pos, ◌*ℤ◌, ◌≤ℤ◌, nat_lt, ◌||◌, MatchOption, IsSome, IfSome}
-use Rattle.std.specs.Int.{◌∣◌}
 use mir.Syntax.{w64, w128}
 use Rattle.std.proofs.lemmas.Int.{ints, to_z-of_z, unsigned_abs-mul}
 use Rattle.std.proofs.Math.Nat.{mul-div_cancel, mul-div_cancel_left, le-mul_of_pos_right}
-use Rattle.std.proofs.lemmas.Nat.Gcd.{mod-eq-zero_of_dvd}
 use Rattle.scattering.proofs.Ring.{dif-up, dif-pos, dif-mul, dif-same, dif-add, dif-neg}
 use Rattle.scattering.proofs.Bezout.{bezout}
 use Rattle.scattering.specs.Plane.{Point, IsNear}
 use Rattle.plane_theory.proofs.WholeNumbers.{cancel, follows}
-use Rattle.plane_theory.proofs.Reduction.{over, divided, divided-point, divided-x, divided-y, size-over}
+use Rattle.plane_theory.proofs.Reduction.{quotient, over, divided, divided-point, divided-x, divided-y, size-over}
 use Rattle.plane_geom.specs.Shown.{IsQuotient, IsFar}
 use Rattle.plane_geom.proofs.Quotients.{quotient-along}
 use Rattle.scatter_text.specs.declared.file.Coordinate.{Coordinate}
 use Rattle.scatter_text.specs.Limits.{is_far, gcd}
 use Rattle.scatter_text.specs.LimitedLines.{IsPlace}
 use Rattle.scatter_text.proofs.Divisors.{gcd-is, gcd-positive}
-use Rattle.scatter_text.proofs.WithinLimits.{or-false, not-less}
+use Rattle.scattering.proofs.Lists.{or-false}
+use Rattle.scatter_text.proofs.WithinLimits.{not-less}
 
 -- ---- small numbers have a near point
 
@@ -45,9 +44,6 @@ scaled a w x v g h =
 
 quotient-scaled : (x y w g : ℤ) (q : Point) → IsQuotient x y w q → IsQuotient (g *ℤ x) (g *ℤ y) (g *ℤ w) q
 quotient-scaled x y w g q h = (h.0, scaled q.x w x q.w g h.1, scaled q.y w y q.w g h.2)
-
-factor : (g n : ℕ) → g ∣ n → n ≡ g * (n / g)
-factor g n h = let e = mod-eq-zero_of_dvd g h in omega (arith, e)
 
 -- w is p·q/g, where p is g·a and q is g·b
 record Common (p q a b w : ℕ) : Type 0 where
@@ -121,8 +117,8 @@ module _ (x y : Coordinate) (hx : pos 1 ≤ℤ x.den) (hy : pos 1 ≤ℤ y.den) 
   not-far near far =
       let hg : 1 ≤ g = gcd-positive p q some in
       let is = gcd-is p q in
-      let ep : p ≡ g * (p / g) = factor g p is.0 in
-      let eq : q ≡ g * (q / g) = factor g q is.1 in
+      let ep : p ≡ g * (p / g) = quotient g p is.0 in
+      let eq : q ≡ g * (q / g) = quotient g q is.1 in
       let c = common p q g (p / g) (q / g) hg some some-more ep eq in
       let parts = not-far-parts x y (p * q / g) refl near in
       let whole = c.whole in

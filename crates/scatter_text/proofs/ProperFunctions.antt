@@ -5,23 +5,23 @@ use Rattle.std.proofs.lemmas.List.{length-map}
 use Rattle.scattering.specs.Collections.{Every, EveryPair}
 use Rattle.scattering.specs.Series.{Exp, Term, Sum, Same, IsSeries, IsMultiple, IsWallFunction, coef, cut, degree, rest, unit, key_eq, key_before, mass_to}
 use Rattle.scattering.specs.Plane.{IsDirection}
+use Rattle.scattering.proofs.Coefficients.{low-cut}
 use Rattle.scattering.proofs.Keys.{key_eq-apart}
 use Rattle.scattering.proofs.Lists.{Every-implies, Every-in_order, Every-filter, pairs-filter}
 use Rattle.trunc_series.specs.Shown.{Seen, IsSeriesOf, IsTerm as IsTermTo}
-use Rattle.trunc_series.proofs.Unique.{terms-unique}
-use Rattle.trunc_series.proofs.Coefficients.{coef-none}
 use Rattle.trunc_series.proofs.BoundLaws.{least-mass}
-use Rattle.plane_geom.specs.Shown.{exp_of}
+use Rattle.plane_geom.specs.Shown.{vector_of}
 use Rattle.plane_geom.specs.declared.Direction.{Direction}
 use Rattle.scatter_diagram.specs.Proper.{IsTame, IsProper}
 use Rattle.scatter_text.specs.declared.file.LineRow.{LineRow}
 use Rattle.scattering.specs.Wall.{Wall, IsWall, cut_wall}
-use Rattle.scatter_text.specs.GivenWalls.{term_of, sum_given, function_of, direction_of, IsWallOf}
+use Rattle.scattering.proofs.Coefficients.{coef-none}
+use Rattle.scattering.proofs.Determined.{terms-unique}
+use Rattle.scatter_text.specs.GivenWalls.{term_given, sum_given, function_of, direction_of, IsWallOf}
 use Rattle.scatter_text.specs.LimitedLines.{IsLimitedLine}
 use Rattle.scatter_text.proofs.WithinLimits.{exponents-small, coefficients-small}
-use Rattle.scatter_text.proofs.OrderedSums.{in_order-rises, in_order-same, cut-low}
+use Rattle.scatter_text.proofs.OrderedSums.{in_order-rises, in_order-same}
 use Rattle.scatter_text.proofs.GivenFunctions.{IsSmall, IsGiven, every-from, every-map, some-degree, sum-apart, sum-each}
-use Rattle.scatter_text.proofs.Divisors.{coprime-direction}
 
 pub every-both : {A : Type 0} (P Q R : A → Type 0) (xs : List A) → ((x : A) → P x → Q x → R x) → Every P xs → Every Q xs → Every R xs
 every-both P Q R [] i h k = tt
@@ -55,7 +55,7 @@ module _ (l : LineRow) (h : IsLimitedLine l) where
   F = cut 24 (function_of (direction_of l) l.terms)
 
   direction : IsDirection (direction_of l)
-  direction = coprime-direction (direction_of l) h.valid.primitive
+  direction = h.valid.primitive
 
   small : Every (IsSmall (direction_of l)) l.terms
   small = every-from (IsSmall (direction_of l)) l.terms (λ k e lt.
@@ -79,7 +79,7 @@ module _ (l : LineRow) (h : IsLimitedLine l) where
   pub low-terms : Every (IsTermTo 24) (cut 24 (sum_given (direction_of l) l.terms))
   unfolding f
   low-terms = every-both (IsGiven (direction_of l) direction) (λ t. degree t.0 ≤ 24) (IsTermTo 24) (cut 24 f)
-      (λ t g low. let s = g.small in (g.nonzero, omega (arith, s), low)) (Every-filter (IsGiven (direction_of l) direction) (λ t. nat_le (degree t.0) 24) f each) (cut-low 24 f)
+      (λ t g low. let s = g.small in (g.nonzero, omega (arith, s), low)) (Every-filter (IsGiven (direction_of l) direction) (λ t. nat_le (degree t.0) 24) f each) (low-cut 24 f)
 
   all-given : Every (IsGiven (direction_of l) direction) F
   unfolding F f
@@ -90,7 +90,7 @@ module _ (l : LineRow) (h : IsLimitedLine l) where
   series = record {
     rises = pairs-filter (λ t u. IsTrue (key_before t.0 u.0)) (λ t. nat_le (degree t.0) 24) (function_of (direction_of l) l.terms) (in_order-rises f apart);
     nonzero = Every-implies (IsGiven (direction_of l) direction) (λ t. t.1 ≢ pos 0) F (λ t g. g.nonzero) all-given;
-    low = cut-low 24 (function_of (direction_of l) l.terms);
+    low = low-cut 24 (function_of (direction_of l) l.terms);
   }
 
   same : Same F (cut 24 f)
@@ -107,18 +107,18 @@ module _ (l : LineRow) (h : IsLimitedLine l) where
   unfolding F f
   constant = same unit ∙ ap (λ (c : ℤ). pos 1 +ℤ c) none
     where
-      none : coef (cut 24 (map (term_of (direction_of l)) l.terms)) unit ≡ pos 0
-      none = coef-none (cut 24 (map (term_of (direction_of l)) l.terms)) unit
-          (Every-filter (λ t. key_eq t.0 unit ≡ false) (λ t. nat_le (degree t.0) 24) (map (term_of (direction_of l)) l.terms)
-          (every-map (λ t. key_eq t.0 unit ≡ false) (IsSmall (direction_of l)) (term_of (direction_of l)) l.terms
-          (λ t s. key_eq-apart (term_of (direction_of l) t) unit (λ e. let p = some-degree (direction_of l) direction t s in omega (arith, e, p))) small))
+      none : coef (cut 24 (map (term_given (direction_of l)) l.terms)) unit ≡ pos 0
+      none = coef-none (cut 24 (map (term_given (direction_of l)) l.terms)) unit
+          (Every-filter (λ t. key_eq t.0 unit ≡ false) (λ t. nat_le (degree t.0) 24) (map (term_given (direction_of l)) l.terms)
+          (every-map (λ t. key_eq t.0 unit ≡ false) (IsSmall (direction_of l)) (term_given (direction_of l)) l.terms
+          (λ t s. key_eq-apart (term_given (direction_of l) t) unit (λ e. let p = some-degree (direction_of l) direction t s in omega (arith, e, p))) small))
 
   mass : mass_to 24 F ≤ 2 ^ 127
   unfolding F f
   mass =
       let least = least-mass (record { order = 24; terms = F }) 24 (cut 24 f) (record { order = refl; series = series; same = same }) in
       let most = mass-small 24 f (Every-implies (IsGiven (direction_of l) direction) (λ t. nat_abs t.1 ≤ 2147483647) f (λ t g. g.small) each) in
-      let n = length-map l.terms (term_of (direction_of l)) in
+      let n = length-map l.terms (term_given (direction_of l)) in
       let few = h.few_terms in
       omega (arith, least, most, n, few)
 
@@ -126,7 +126,7 @@ module _ (l : LineRow) (h : IsLimitedLine l) where
   unfolding F f
   function = record { series = series; constant = constant; others = rest-given (direction_of l) direction F all-given }
 
-  pub proper : (dir : Direction) (s : Seen) → exp_of dir ≡ direction_of l → s ≡ record { order = 24; terms = cut 24 (function_of (direction_of l) l.terms) } → IsProper dir s
+  pub proper : (dir : Direction) (s : Seen) → vector_of dir ≡ direction_of l → s ≡ record { order = 24; terms = cut 24 (function_of (direction_of l) l.terms) } → IsProper dir s
   unfolding F f
   proper dir s e same = subst (IsProper dir) (sym same) (record {
     function = subst (λ (m : Exp). IsWallFunction 24 m F) (sym e) function;

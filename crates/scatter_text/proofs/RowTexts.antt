@@ -1,46 +1,17 @@
 -- A line's tokens say one row.
-use Rattle.std.proofs.Common.{inl, inr, ◌≡◌, ◌≤ℤ◌, ℕ, ◌==◌, List, [], ◌∷◌, length, map, drop, get_or, refl, arith, sym, ◌∙◌, ap, subst, ℤ, pos, negsuc, nat_abs}
+use Rattle.std.proofs.Common.{inl, inr, ◌≡◌, ℕ, List, [], ◌∷◌, map, drop, get_or, refl, sym, ◌∙◌, ap, subst, ℤ}
 use Rattle.std.specs.Fmt.{signed_decimal}
-use Rattle.std.specs.List.{slice_split, AllByRecursion}
-use Rattle.std.proofs.lemmas.Int.{ints}
+use Rattle.std.specs.List.{AllByRecursion}
 use Rattle.std.proofs.lemmas.List.Elements.{recursion_from_All}
 use Rattle.scatter_text.specs.declared.fault.TextKind.{TextKind}
 use Rattle.scatter_text.specs.declared.fault.TextKind.TheVariants.{Value}
-use Rattle.scatter_text.specs.declared.file.Coordinate.{Coordinate}
 use Rattle.scatter_text.specs.declared.grammar.Keyword.TheVariants as keyword
 use Rattle.scatter_text.specs.declared.grammar.Row.{Row}
 use Rattle.scatter_text.specs.declared.grammar.Row.TheVariants as row
-use Rattle.scatter_text.specs.Grammar.{IsShort, IsShortCoordinate, coordinate_text, keyword_of, row_tokens, IsShortRow, HasValues, Passes, Says, IsGoodLine, IsBadLine}
+use Rattle.scatter_text.specs.Grammar.{IsShort, keyword_of, row_tokens, IsShortRow, HasValues, Passes, Says, IsGoodLine, IsBadLine}
 use Rattle.scatter_text.specs.Reading.{IsUnvaluedLine}
-use Rattle.scatter_text.proofs.Numbers.{number_text_injective}
-use Rattle.scatter_text.proofs.Coordinates.{CoordinateCases, whole, fraction, coordinate_cases}
+use Rattle.scatter_text.proofs.Spelling.{coordinate-same, number-injective}
 use Rattle.scatter_text.proofs.Lines.{word_injective}
-
-one_is : (d e : ℤ) → pos 1 ≤ℤ d → pos 1 ≤ℤ e → nat_abs d ≡ 1 → nat_abs e ≡ 1 → d ≡ e
-one_is (pos m) (pos n) h g e f = let same : m ≡ n = e ∙ sym f in ap pos same
-one_is (pos m) (negsuc n) h g e f = absurd (omega (arith, ints))
-one_is (negsuc m) e h g x y = absurd (omega (arith, ints))
-
-uneven : (m n : ℕ) → m ≡ 1 → n ≡ 2 → m ≡ n → ⊥
-uneven m n e f same = omega arith
-
-pub coordinate_injective : (c d : Coordinate) → IsShortCoordinate c → IsShortCoordinate d → coordinate_text c ≡ coordinate_text d → c ≡ d
-coordinate_injective c d g h e = at (coordinate_cases c g.num g.den) (coordinate_cases d h.num h.den)
-  where
-    at : CoordinateCases c → CoordinateCases d → c ≡ d
-    at (whole one text pieces) (whole one' text' pieces') =
-        let num = number_text_injective c.num d.num g.num h.num (sym text ∙ e ∙ text') in
-        let den = one_is c.den d.den g.valid.positive h.valid.positive one one' in
-        λ i. record { num = num i; den = den i }
-    at (whole one text pieces) (fraction more text' pieces') =
-        absurd (uneven 1 2 refl refl (ap (λ (ps : List (List ℕ)). length ps) (sym pieces ∙ ap (slice_split (λ b. b == 47)) e ∙ pieces')))
-    at (fraction more text pieces) (whole one text' pieces') =
-        absurd (uneven 1 2 refl refl (ap (λ (ps : List (List ℕ)). length ps) (sym pieces' ∙ ap (slice_split (λ b. b == 47)) (sym e) ∙ pieces)))
-    at (fraction more text pieces) (fraction more' text' pieces') =
-        let same : signed_decimal c.num ∷ signed_decimal c.den ∷ [] ≡ signed_decimal d.num ∷ signed_decimal d.den ∷ [] = sym pieces ∙ ap (slice_split (λ b. b == 47)) e ∙ pieces' in
-        let num = number_text_injective c.num d.num g.num h.num (ap (λ (ps : List (List ℕ)). get_or ps 0 []) same) in
-        let den = number_text_injective c.den d.den g.den h.den (ap (λ (ps : List (List ℕ)). get_or ps 1 []) same) in
-        λ i. record { num = num i; den = den i }
 
 numbers_injective : (xs ys : List ℤ) → AllByRecursion IsShort xs → AllByRecursion IsShort ys → map signed_decimal xs ≡ map signed_decimal ys → xs ≡ ys
 numbers_injective [] [] g h e = refl
@@ -53,22 +24,22 @@ numbers_injective (x ∷ xs) [] g h e = absurd (none e)
     none : signed_decimal x ∷ map signed_decimal xs ≡ [] → ⊥
     none e = cc
 numbers_injective (x ∷ xs) (y ∷ ys) g h e =
-    let first = number_text_injective x y g.0 h.0 (ap (λ (ts : List (List ℕ)). get_or ts 0 []) e) in
+    let first = number-injective x y g.0 h.0 (ap (λ (ts : List (List ℕ)). get_or ts 0 []) e) in
     let rest = numbers_injective xs ys g.1 h.1 (ap (λ (ts : List (List ℕ)). drop 1 ts) e) in
     λ i. first i ∷ rest i
 
 pub row_injective : (r s : Row) → IsShortRow r → IsShortRow s → row_tokens r ≡ row_tokens s → r ≡ s
-row_injective (row.Scatter v) (row.Scatter w) short_r short_s e = ap row.Scatter (number_text_injective v w short_r short_s (ap (λ (ts : List (List ℕ)). get_or ts 1 []) e))
-row_injective (row.Vars v) (row.Vars w) short_r short_s e = ap row.Vars (number_text_injective v w short_r short_s (ap (λ (ts : List (List ℕ)). get_or ts 1 []) e))
+row_injective (row.Scatter v) (row.Scatter w) short_r short_s e = ap row.Scatter (number-injective v w short_r short_s (ap (λ (ts : List (List ℕ)). get_or ts 1 []) e))
+row_injective (row.Vars v) (row.Vars w) short_r short_s e = ap row.Vars (number-injective v w short_r short_s (ap (λ (ts : List (List ℕ)). get_or ts 1 []) e))
 row_injective (row.Line a b p q) (row.Line c d r s) short_r short_s e =
-    let dx = number_text_injective a c short_r.0 short_s.0 (ap (λ (ts : List (List ℕ)). get_or ts 1 []) e) in
-    let dy = number_text_injective b d short_r.1 short_s.1 (ap (λ (ts : List (List ℕ)). get_or ts 2 []) e) in
-    let x = coordinate_injective p r short_r.2 short_s.2 (ap (λ (ts : List (List ℕ)). get_or ts 4 []) e) in
-    let y = coordinate_injective q s short_r.3 short_s.3 (ap (λ (ts : List (List ℕ)). get_or ts 5 []) e) in
+    let dx = number-injective a c short_r.0 short_s.0 (ap (λ (ts : List (List ℕ)). get_or ts 1 []) e) in
+    let dy = number-injective b d short_r.1 short_s.1 (ap (λ (ts : List (List ℕ)). get_or ts 2 []) e) in
+    let x = coordinate-same p r short_r.2 short_s.2 (ap (λ (ts : List (List ℕ)). get_or ts 4 []) e) in
+    let y = coordinate-same q s short_r.3 short_s.3 (ap (λ (ts : List (List ℕ)). get_or ts 5 []) e) in
     λ i. row.Line (dx i) (dy i) (x i) (y i)
 row_injective (row.Term t) (row.Term u) short_r short_s e =
-    let c = number_text_injective t.c u.c short_r.0 short_s.0 (ap (λ (ts : List (List ℕ)). get_or ts 1 []) e) in
-    let j = number_text_injective t.j u.j short_r.1 short_s.1 (ap (λ (ts : List (List ℕ)). get_or ts 2 []) e) in
+    let c = number-injective t.c u.c short_r.0 short_s.0 (ap (λ (ts : List (List ℕ)). get_or ts 1 []) e) in
+    let j = number-injective t.j u.j short_r.1 short_s.1 (ap (λ (ts : List (List ℕ)). get_or ts 2 []) e) in
     let powers = numbers_injective t.powers u.powers (recursion_from_All IsShort t.powers short_r.2) (recursion_from_All IsShort u.powers short_s.2) (ap (λ (ts : List (List ℕ)). drop 3 ts) e) in
     λ i. row.Term record { c = c i; j = j i; powers = powers i }
 row_injective row.End row.End short_r short_s e = refl

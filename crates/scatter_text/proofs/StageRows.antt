@@ -93,5 +93,5 @@ pub not_whole : (s : Stage) → ((vars : ℤ) (lines : Vec LineRow Global) → s
 not_whole stage.Start other e = cc
 not_whole stage.Version other e = cc
 not_whole (stage.Head vars) other e = cc
-not_whole (stage.Body vars lines last) other e = let here : place.Terms ≡ place.After = sym (place_after-line (fold rows_onto (head_rows vars) lines.items) last) ∙ e in cc
+not_whole (stage.Body vars lines last) other e = let here : place.Terms ≡ place.After = sym (place_after-line (fold rows_onto (head_rows vars) lines.items) last.row) ∙ e in cc
 not_whole (stage.Whole vars lines) other e = other vars lines refl

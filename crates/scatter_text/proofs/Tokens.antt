@@ -6,7 +6,7 @@ use Rattle.std.specs.List.{AllByRecursion}
 use Rattle.std.specs.Fmt.{signed_decimal}
 use Rattle.scatter_text.specs.declared.grammar.Row.{Row}
 use Rattle.scatter_text.specs.declared.grammar.Row.TheVariants as row
-use Rattle.scatter_text.specs.Reading.{AreLineTexts, IsLineOf, AreTermTexts, IsTermOf, IsRowOf}
+use Rattle.scatter_text.specs.Reading.{AreLineTexts, IsLineRowOf, AreTermTexts, IsTermRowOf, IsRowOf}
 use Rattle.std.proofs.lemmas.Bool.Decides.{nat_tests}
 use Rattle.scatter_text.specs.Grammar.{Slot, fixed, number, coordinate, form, HasForm, AreSpelled, IsNumberText, IsShort}
 use Rattle.scatter_text.specs.declared.grammar.Keyword.{Keyword}
@@ -78,7 +78,7 @@ spelled_numbers n tokens e = (λ h. All-from_recursion IsNumberText tokens (to n
     from (suc n) (t ∷ ts) e h = (h.0, from n ts (omega (arith, e)) h.1)
 
 -- what the tokens of a line say is what its parts say
-line_row_at : (r : Option Row) (vars : ℤ) (w a b t x y : List ℕ) → w ≡ codes "line" → t ≡ codes "at" → MatchOption r (¬ AreLineTexts a b x y) (IsLineOf a b x y) → MatchOption r (¬ AreSpelled (form keyword.Line vars) (w ∷ a ∷ b ∷ t ∷ x ∷ y ∷ [])) (IsRowOf keyword.Line vars (w ∷ a ∷ b ∷ t ∷ x ∷ y ∷ []))
+line_row_at : (r : Option Row) (vars : ℤ) (w a b t x y : List ℕ) → w ≡ codes "line" → t ≡ codes "at" → MatchOption r (¬ AreLineTexts a b x y) (IsLineRowOf a b x y) → MatchOption r (¬ AreSpelled (form keyword.Line vars) (w ∷ a ∷ b ∷ t ∷ x ∷ y ∷ [])) (IsRowOf keyword.Line vars (w ∷ a ∷ b ∷ t ∷ x ∷ y ∷ []))
 line_row_at None vars w a b t x y word at says = λ spelled. says (spelled.0, spelled.1.0, spelled.1.1.0, spelled.1.1.1.0)
 line_row_at (Some (row.Line dx dy p q)) vars w a b t x y word at says = record {
   keyword = refl;
@@ -91,9 +91,9 @@ line_row_at (Some (row.Vars n)) vars w a b t x y word at says = absurd says
 line_row_at (Some (row.Term term)) vars w a b t x y word at says = absurd says
 line_row_at (Some row.End) vars w a b t x y word at says = absurd says
 
-pub line_row : (r : Option Row) (vars : ℤ) (tokens : List (List ℕ)) (a b x y : List ℕ) → HasForm (form keyword.Line vars) tokens → get_or tokens 1 [] ≡ a → get_or tokens 2 [] ≡ b → get_or tokens 4 [] ≡ x → get_or tokens 5 [] ≡ y → MatchOption r (¬ AreLineTexts a b x y) (IsLineOf a b x y) → MatchOption r (¬ AreSpelled (form keyword.Line vars) tokens) (IsRowOf keyword.Line vars tokens)
+pub line_row : (r : Option Row) (vars : ℤ) (tokens : List (List ℕ)) (a b x y : List ℕ) → HasForm (form keyword.Line vars) tokens → get_or tokens 1 [] ≡ a → get_or tokens 2 [] ≡ b → get_or tokens 4 [] ≡ x → get_or tokens 5 [] ≡ y → MatchOption r (¬ AreLineTexts a b x y) (IsLineRowOf a b x y) → MatchOption r (¬ AreSpelled (form keyword.Line vars) tokens) (IsRowOf keyword.Line vars tokens)
 line_row r vars (w ∷ a' ∷ b' ∷ t ∷ x' ∷ y' ∷ []) a b x y h ea eb ex ey says =
-    let P : List ℕ → List ℕ → List ℕ → List ℕ → Type 0 = λ a b x y. MatchOption r (¬ AreLineTexts a b x y) (IsLineOf a b x y) in
+    let P : List ℕ → List ℕ → List ℕ → List ℕ → Type 0 = λ a b x y. MatchOption r (¬ AreLineTexts a b x y) (IsLineRowOf a b x y) in
     let there : P a' b' x' y' = subst (λ z. z) (λ i. P (sym ea i) (sym eb i) (sym ex i) (sym ey i)) says in
     line_row_at r vars w a' b' t x' y' h.0 h.1.0 there
 line_row r vars [] a b x y h ea eb ex ey says = absurd h
@@ -104,7 +104,7 @@ line_row r vars (w ∷ a' ∷ b' ∷ t ∷ []) a b x y h ea eb ex ey says = absu
 line_row r vars (w ∷ a' ∷ b' ∷ t ∷ x' ∷ []) a b x y h ea eb ex ey says = absurd h.1.1
 line_row r vars (w ∷ a' ∷ b' ∷ t ∷ x' ∷ y' ∷ z ∷ more) a b x y h ea eb ex ey says = absurd h.1.1
 
-term_row_at : (r : Option Row) (vars : ℤ) (w c j : List ℕ) (powers : List (List ℕ)) → w ≡ codes "term" → length powers ≡ nat_abs vars → MatchOption r (¬ AreTermTexts c j powers) (IsTermOf c j powers) → MatchOption r (¬ AreSpelled (form keyword.Term vars) (w ∷ c ∷ j ∷ powers)) (IsRowOf keyword.Term vars (w ∷ c ∷ j ∷ powers))
+term_row_at : (r : Option Row) (vars : ℤ) (w c j : List ℕ) (powers : List (List ℕ)) → w ≡ codes "term" → length powers ≡ nat_abs vars → MatchOption r (¬ AreTermTexts c j powers) (IsTermRowOf c j powers) → MatchOption r (¬ AreSpelled (form keyword.Term vars) (w ∷ c ∷ j ∷ powers)) (IsRowOf keyword.Term vars (w ∷ c ∷ j ∷ powers))
 term_row_at None vars w c j powers word count says = λ spelled. says (spelled.0, spelled.1.0, (spelled_numbers (nat_abs vars) powers count).0 spelled.1.1)
 term_row_at (Some (row.Term term)) vars w c j powers word count says = record {
   keyword = refl;
@@ -120,9 +120,9 @@ term_row_at (Some (row.Vars n)) vars w c j powers word count says = absurd says
 term_row_at (Some (row.Line dx dy p q)) vars w c j powers word count says = absurd says
 term_row_at (Some row.End) vars w c j powers word count says = absurd says
 
-pub term_row : (r : Option Row) (vars : ℤ) (tokens : List (List ℕ)) (c j : List ℕ) (powers : List (List ℕ)) → HasForm (form keyword.Term vars) tokens → get_or tokens 1 [] ≡ c → get_or tokens 2 [] ≡ j → drop 3 tokens ≡ powers → MatchOption r (¬ AreTermTexts c j powers) (IsTermOf c j powers) → MatchOption r (¬ AreSpelled (form keyword.Term vars) tokens) (IsRowOf keyword.Term vars tokens)
+pub term_row : (r : Option Row) (vars : ℤ) (tokens : List (List ℕ)) (c j : List ℕ) (powers : List (List ℕ)) → HasForm (form keyword.Term vars) tokens → get_or tokens 1 [] ≡ c → get_or tokens 2 [] ≡ j → drop 3 tokens ≡ powers → MatchOption r (¬ AreTermTexts c j powers) (IsTermRowOf c j powers) → MatchOption r (¬ AreSpelled (form keyword.Term vars) tokens) (IsRowOf keyword.Term vars tokens)
 term_row r vars (w ∷ c' ∷ j' ∷ powers') c j powers h ec ej ep says =
-    let P : List ℕ → List ℕ → List (List ℕ) → Type 0 = λ c j powers. MatchOption r (¬ AreTermTexts c j powers) (IsTermOf c j powers) in
+    let P : List ℕ → List ℕ → List (List ℕ) → Type 0 = λ c j powers. MatchOption r (¬ AreTermTexts c j powers) (IsTermRowOf c j powers) in
     let there : P c' j' powers' = subst (λ z. z) (λ i. P (sym ec i) (sym ej i) (sym ep i)) says in
     term_row_at r vars w c' j' powers' h.0 ((numbers_form (nat_abs vars) powers').0 h.1) there
 term_row r vars [] c j powers h ec ej ep says = absurd h

@@ -11,7 +11,7 @@ use Rattle.scatter_text.specs.declared.grammar.Keyword.{Keyword}
 use Rattle.scatter_text.specs.declared.grammar.Keyword.TheVariants as keyword
 use Rattle.scatter_text.specs.declared.grammar.Row.{Row}
 use Rattle.scatter_text.specs.declared.grammar.Row.TheVariants as row
-use Rattle.scatter_text.specs.Values.{IsTerm, AreAlike, IsLine, AreLines}
+use Rattle.scatter_text.specs.Values.{IsTermRow, AreAlike, IsLine, AreLineRows}
 use Rattle.scatter_text.specs.Grammar.{form, HasForm, word_of, row_tokens, IsShortRow, HasValues, vars_of, terms_before, Passes, IsGoodLine, AreGood, rows_onto}
 use Rattle.scatter_text.specs.Stages.{head_rows}
 use Rattle.scatter_text.proofs.Lines.{word_injective}
@@ -71,7 +71,7 @@ pairs (t ∷ ts) h (suc i) (suc j) d below within = pairs ts h.1 i j d (omega ar
 
 -- what is known of the terms of a line
 record TermsFit (vars : ℤ) (earlier ts : List TermRow) : Type 0 where
-  each : AllByRecursion IsTerm ts
+  each : AllByRecursion IsTermRow ts
   counts : AllByRecursion (λ t. length t.powers ≡ nat_abs vars) ts
   apart : AllByRecursion (λ t. AllByRecursion (λ e. Differ e t) earlier) ts
   pairs : ArePairs ts
@@ -107,7 +107,7 @@ line_fit before l fit =
         x = here.short.2.valid;
         y = here.short.3.valid;
         terms = record {
-          each = All-from_recursion IsTerm l.terms parts.0.each;
+          each = All-from_recursion IsTermRow l.terms parts.0.each;
           variables = All-from_recursion (λ t. length t.powers ≡ nat_abs (vars_of before)) l.terms parts.0.counts;
           different = pairs l.terms parts.0.pairs;
         };
@@ -125,7 +125,7 @@ lines_fit before (l ∷ ls) fit =
 
 pub record IsFile (vars : ℤ) (lines : List LineRow) : Type 0 where
   pub variables : pos 1 ≤ℤ vars
-  pub valid : AreLines vars lines
+  pub valid : AreLineRows vars lines
 
 pub file_from_good : (texts : List (List ℕ)) (vars : ℤ) (lines : List LineRow) → AreGood [] texts (row.End ∷ fold rows_onto (head_rows vars) lines) → IsFile vars lines
 file_from_good texts vars lines good =

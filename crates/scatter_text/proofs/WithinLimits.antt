@@ -4,6 +4,7 @@ use Rattle.std.specs.Prelude.{ℤ, pos, nat_abs, None, find, option_map, nat_lt,
 use Rattle.std.specs.List.{list_any}
 use Rattle.std.proofs.lemmas.Bool.Decides.{nat_tests}
 use Rattle.scattering.specs.Collections.{Every}
+use Rattle.scattering.proofs.Lists.{or-false}
 use Rattle.scatter_text.specs.declared.file.LineRow.{LineRow}
 use Rattle.scatter_text.specs.declared.file.TermRow.{TermRow}
 use Rattle.scatter_text.specs.declared.file.TextFile.{TextFile}
@@ -11,10 +12,6 @@ use Rattle.scatter_text.specs.declared.fault.LimitKind.{LimitKind}
 use Rattle.scatter_text.specs.Limits.{limit_of, limits_by, has_many_vars, has_large_coefficient, is_exponent_large, has_large_exponent, is_power_large, has_large_power, IsWithinLimits}
 
 -- ---- tests that fail
-
-pub or-false : (a b : Bool) → (a || b) ≡ false → (a ≡ false) × (b ≡ false)
-or-false true b e = absurd (cc)
-or-false false b e = (refl, e)
 
 pub any-none : {X : Type 0} (p : X → Bool) (xs : List X) → list_any p xs ≡ false → All (λ x. p x ≡ false) xs
 any-none p [] e k d lt = absurd (omega (arith, lt))

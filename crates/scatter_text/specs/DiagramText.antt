@@ -1,5 +1,5 @@
 -- The text of a completed diagram, which ends with the cause where the computation stopped before its order.
-use Rattle.std.specs.Prelude.{◌≡◌, ◌≢◌, ℕ, ◌==◌, nat_lt, Bool, ◌&&◌, ◌||◌, IsTrue, List, [], ◌∷◌, ◌++◌, map, flat_map, ℤ, pos, ◌*ℤ◌, codes, decimal, take, Option, Some, None}
+use Rattle.std.specs.Prelude.{◌≡◌, ◌≢◌, ℕ, ◌==◌, nat_lt, Bool, ◌&&◌, ◌||◌, IsTrue, List, [], ◌∷◌, ◌++◌, map, flat_map, ℤ, pos, codes, decimal, take, Option, Some, None}
 use Rattle.std.specs.Fmt.{signed_decimal}
 use Rattle.std.specs.List.{join_with_byte}
 use Rattle.scattering.specs.Collections.{Every, EveryPair}
@@ -7,6 +7,7 @@ use Rattle.scattering.specs.Series.{Exp, Powers, Term, scale, rest, Same, powers
 use Rattle.scattering.specs.Wall.{Wall, Diagram}
 use Rattle.scattering.specs.Stops.{StopCause, PointTooLarge, WeightTooLarge, TooManyWalls}
 use Rattle.scatter_text.specs.declared.file.Coordinate.{Coordinate}
+use Rattle.frac_128.specs.Quotient.{AreEqual}
 use Rattle.scatter_text.specs.Values.{IsCoordinate}
 use Rattle.scatter_text.specs.Grammar.{coordinate_text}
 
@@ -17,9 +18,9 @@ line_of tokens = join_with_byte 32 tokens ++ 10 ∷ []
 -- ---- a wall
 
 -- q is x/w in lowest terms
-pub record IsLowest (x w : ℤ) (q : Coordinate) : Type 0 where
+pub record IsRatioOf (x w : ℤ) (q : Coordinate) : Type 0 where
   pub coordinate : IsCoordinate q
-  pub same : q.num *ℤ w ≡ x *ℤ q.den
+  pub same : AreEqual q.num q.den x w
 
 -- the term c·t^P·z^(j·m) of a wall function of direction m
 pub record Row : Type 0 where
@@ -54,7 +55,7 @@ heading_text word d x y = line_of (word ∷ signed_decimal d.a ∷ signed_decima
 
 -- the text of a wall under this word: the heading, and its rows
 abbrev pub IsWallText : List ℕ → ℕ → Wall → List ℕ → Type 0
-IsWallText word vars w text = (x y : Coordinate) × (rows : List Row) × IsLowest w.at.x w.at.w x × IsLowest w.at.y w.at.w y × AreRows w rows
+IsWallText word vars w text = (x y : Coordinate) × (rows : List Row) × IsRatioOf w.at.x w.at.w x × IsRatioOf w.at.y w.at.w y × AreRows w rows
     × (text ≡ heading_text word w.dir x y ++ flat_map (row_text vars) rows)
 
 -- the texts of the walls, one after the other

@@ -1,6 +1,7 @@
 -- The walls that the lines of a file stand for.
 use Rattle.std.specs.List.{AllZip}
 use Rattle.std.specs.Prelude.{◌≡◌, ℕ, List, ◌∷◌, map, ℤ, pos, ◌*ℤ◌, nat_abs, slice_index_or}
+use Rattle.limits.specs.Limits.{highest_order}
 use Rattle.scattering.specs.Collections.{in_order}
 use Rattle.scattering.specs.Series.{Exp, Powers, Term, Sum, scale, unit, key_before}
 use Rattle.scattering.specs.Plane.{IsPoint}
@@ -18,12 +19,12 @@ abbrev pub powers_at : List ℤ → Powers
 powers_at ps = record { t1 = power_at ps 0; t2 = power_at ps 1; t3 = power_at ps 2; t4 = power_at ps 3; t5 = power_at ps 4; t6 = power_at ps 5; t7 = power_at ps 6; t8 = power_at ps 7 }
 
 -- c·t^P·z^(j·d)
-abbrev pub term_of : Exp → TermRow → Term
-term_of d t = (record { powers = powers_at t.powers; exp = scale t.j d }, t.c)
+abbrev pub term_given : Exp → TermRow → Term
+term_given d t = (record { powers = powers_at t.powers; exp = scale t.j d }, t.c)
 
 -- 1 and the terms
 abbrev pub sum_given : Exp → List TermRow → Sum
-sum_given d terms = (unit, pos 1) ∷ map (term_of d) terms
+sum_given d terms = (unit, pos 1) ∷ map (term_given d) terms
 
 -- the same, by their keys
 abbrev pub function_of : Exp → List TermRow → Sum
@@ -41,9 +42,9 @@ pub record IsWallOf (row : LineRow) (w : Wall) : Type 0 where
   pub direction : w.dir ≡ direction_of row
   pub function : w.function ≡ function_of (direction_of row) row.terms
 
--- the lines that a file says, in order, cut to degree 24
+-- the lines that a file says, in order, cut to the highest order
 pub record IsInitialOf (file : TextFile) (i : SeenInitial) : Type 0 where
   pub given : List Wall
   pub vars : file.vars ≡ pos i.vars
   pub walls : AllZip IsWallOf file.lines given
-  pub lines : i.lines ≡ cut_walls 24 given
+  pub lines : i.lines ≡ cut_walls highest_order given

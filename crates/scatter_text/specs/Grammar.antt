@@ -1,9 +1,10 @@
 -- The format of a text: its words, what a line says, the tests of a line, and the first fault.
 -- A text is cut at line feeds, a line at spaces. Rows that stand before a line are given with the last row first.
-use Rattle.std.specs.Prelude.{◌≡◌, ◌≢◌, ℕ, ◌+◌, ◌<◌, ◌≤◌, ◌^◌, ◌⊎◌, ◌==◌, if◌then◌else◌, List, [], ◌∷◌, ◌++◌, length, map, reverse, replicate, fold, flat_map, All, Contains, slice_get, Some, ℤ, pos, nat_abs, ◌≤ℤ◌, codes}
+use Rattle.std.specs.Prelude.{◌≡◌, ◌≢◌, ℕ, ◌+◌, ◌<◌, ◌≤◌, ◌^◌, ◌⊎◌, ◌==◌, List, [], ◌∷◌, ◌++◌, length, map, reverse, replicate, fold, flat_map, All, Contains, slice_get, Some, ℤ, pos, nat_abs, ◌≤ℤ◌, codes}
 use Rattle.std.specs.List.{slice_split, join_with_byte, AllByRecursion}
 use Rattle.std.specs.Fmt.{signed_decimal}
-use Rattle.scatter_text.specs.Values.{AreCoprime, IsCoordinate, IsTerm, AreAlike}
+use Rattle.frac_128.specs.Text.{fraction_text}
+use Rattle.scatter_text.specs.Values.{AreCoprime, IsCoordinate, IsTermRow, AreAlike}
 use Rattle.scatter_text.specs.declared.file.Coordinate.{Coordinate}
 use Rattle.scatter_text.specs.declared.file.TermRow.{TermRow}
 use Rattle.scatter_text.specs.declared.file.LineRow.{LineRow}
@@ -34,6 +35,10 @@ words_at Lines = keyword.Line ∷ keyword.End ∷ []
 words_at Terms = keyword.Term ∷ keyword.Line ∷ keyword.End ∷ []
 words_at After = []
 
+-- the token is no word that is allowed there
+abbrev pub BeginsNowhere : Place → List ℕ → Type 0
+BeginsNowhere place token = (k : Keyword) → Contains (words_at place) k → token ≡ word_of k → ⊥
+
 -- the place after a line
 abbrev pub next_place : Keyword → Place
 next_place keyword.Scatter = Version
@@ -54,7 +59,7 @@ IsNumberText token = (n : ℤ) × IsShort n × (token ≡ signed_decimal n)
 
 -- `P/Q` in lowest terms, and a number where Q is 1
 abbrev pub coordinate_text : Coordinate → List ℕ
-coordinate_text c = if nat_abs c.den == 1 then signed_decimal c.num else signed_decimal c.num ++ 47 ∷ signed_decimal c.den
+coordinate_text c = fraction_text c.num c.den
 
 pub record IsShortCoordinate (c : Coordinate) : Type 0 where
   pub valid : IsCoordinate c
@@ -152,12 +157,19 @@ pub record BeginsWith (before : List Row) (line : List ℕ) (k : Keyword) : Type
   pub allowed : Contains (words_at (place_after before)) k
   pub first : slice_get (tokens_of line) 0 ≡ Some (word_of k)
 
+-- no term of the same line of the diagram has its monomial
+abbrev pub IsNewTerm : List Row → TermRow → Type 0
+IsNewTerm before term = All (λ earlier. ¬ AreAlike earlier term) (terms_before before)
+
+abbrev pub IsTermAfter : List Row → TermRow → Type 0
+IsTermAfter before term = IsTermRow term × IsNewTerm before term
+
 -- the rules on values
 abbrev pub HasValues : List Row → Row → Type 0
 HasValues before (row.Scatter version) = version ≡ pos 1
 HasValues before (row.Vars vars) = pos 1 ≤ℤ vars
 HasValues before (row.Line dx dy x y) = AreCoprime (nat_abs dx) (nat_abs dy)
-HasValues before (row.Term term) = IsTerm term × All (λ earlier. ¬ AreAlike earlier term) (terms_before before)
+HasValues before (row.Term term) = IsTermAfter before term
 HasValues before row.End = Unit {0}
 
 -- the line says this, and the rules on values hold

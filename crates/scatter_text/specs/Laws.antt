@@ -5,13 +5,13 @@ use Rattle.scattering.specs.Collections.{Every}
 use Rattle.scattering.specs.Wall.{Wall, IsWall, Diagram, walls}
 use Rattle.scattering.specs.Stops.{StopCause}
 use Rattle.scatter_text.specs.declared.file.LineRow.{LineRow}
-use Rattle.scatter_text.specs.Values.{AreLines}
+use Rattle.scatter_text.specs.Values.{AreLineRows}
 use Rattle.scatter_text.specs.DiagramText.{IsDiagramText}
 use Rattle.scatter_text.specs.GivenWalls.{IsWallOf}
 
 -- the lines of a file stand for one list of walls
 abbrev pub WallsAreOne : Type 0
-WallsAreOne = (vars : ℤ) (rows : List LineRow) (ws us : List Wall) → AreLines vars rows → AllZip IsWallOf rows ws → AllZip IsWallOf rows us → ws ≡ us
+WallsAreOne = (vars : ℤ) (rows : List LineRow) (ws us : List Wall) → AreLineRows vars rows → AllZip IsWallOf rows ws → AllZip IsWallOf rows us → ws ≡ us
 
 -- a diagram has one text
 abbrev pub DiagramTextIsOne : Type 0

@@ -2,6 +2,7 @@ pub mod Values
 pub mod Grammar
 pub mod Limits
 pub mod Reading
+pub mod Monomials
 pub mod Stages
 pub mod DiagramText
 pub mod GivenWalls

@@ -1,6 +1,7 @@
 -- The limits of what is accepted, in the order in which they are tested.
-use Rattle.std.specs.Prelude.{◌≡◌, ℕ, zero, suc, ◌+◌, ◌*◌, ◌/◌, ◌%◌, ◌^◌, ◌==◌, nat_lt, Bool, true, false, ◌||◌, List, [], ◌∷◌, length, Option, option_map, find, nat_abs, ℤ, pos, codes}
+use Rattle.std.specs.Prelude.{◌≡◌, ℕ, zero, suc, ◌+◌, ◌*◌, ◌/◌, ◌%◌, ◌==◌, nat_lt, Bool, true, false, ◌||◌, List, [], ◌∷◌, length, Option, option_map, find, nat_abs, ℤ, pos, codes}
 use Rattle.std.specs.List.{list_any}
+use Rattle.limits.specs.Limits.{largest_coefficient, largest_coordinate, largest_given_exponent, largest_power, most_lines, most_monomials, most_terms, most_variables}
 use Rattle.scatter_text.specs.declared.file.Coordinate.{Coordinate}
 use Rattle.scatter_text.specs.declared.file.TermRow.{TermRow}
 use Rattle.scatter_text.specs.declared.file.LineRow.{LineRow}
@@ -22,26 +23,26 @@ gcd_within (suc steps) a b = elim (b == 0) [ true ↦ a | false ↦ gcd_within s
 unfoldable pub gcd : ℕ → ℕ → ℕ
 gcd a b = gcd_within b a b
 
--- more than 8 variables
+-- too many variables
 abbrev pub has_many_vars : ℤ → Bool
-has_many_vars vars = nat_lt 8 (nat_abs vars)
+has_many_vars vars = nat_lt most_variables (nat_abs vars)
 
--- more than 131072 monomials in the variables up to the order
+-- too many monomials in the variables up to the order
 unfoldable pub has_many_monomials : ℕ → ℤ → Bool
-has_many_monomials order vars = nat_lt 131072 (binomial (order + nat_abs vars) (nat_abs vars))
+has_many_monomials order vars = nat_lt most_monomials (binomial (order + nat_abs vars) (nat_abs vars))
 
 unfoldable pub has_many_lines : List LineRow → Bool
-has_many_lines lines = nat_lt 16 (length lines)
+has_many_lines lines = nat_lt most_lines (length lines)
 
 unfoldable pub has_many_terms : List LineRow → Bool
-has_many_terms lines = list_any (λ l. nat_lt 64 (length l.terms)) lines
+has_many_terms lines = list_any (λ l. nat_lt most_terms (length l.terms)) lines
 
 unfoldable pub has_large_coefficient : LineRow → Bool
-has_large_coefficient l = list_any (λ t. nat_lt 2147483647 (nat_abs t.c)) l.terms
+has_large_coefficient l = list_any (λ t. nat_lt largest_coefficient (nat_abs t.c)) l.terms
 
 -- j times a number of a direction
 unfoldable pub is_exponent_large : ℤ → ℤ → Bool
-is_exponent_large j d = nat_lt 64 (nat_abs j * nat_abs d)
+is_exponent_large j d = nat_lt largest_given_exponent (nat_abs j * nat_abs d)
 
 -- of the direction itself, and of the terms
 unfoldable pub has_large_exponent : LineRow → Bool
@@ -50,16 +51,16 @@ has_large_exponent l =
     list_any (λ t. is_exponent_large t.j l.dx || is_exponent_large t.j l.dy) l.terms
 
 unfoldable pub is_power_large : TermRow → Bool
-is_power_large t = list_any (λ a. nat_lt 255 (nat_abs a)) t.powers
+is_power_large t = list_any (λ a. nat_lt largest_power (nat_abs a)) t.powers
 
 unfoldable pub has_large_power : LineRow → Bool
 has_large_power l = list_any is_power_large l.terms
 
--- the point (x, y) over the least common denominator w: one of x, y, w above 2^40
+-- the point (x, y) over the least common denominator w: one of x, y, w above the largest coordinate
 unfoldable pub is_far : Coordinate → Coordinate → Bool
 is_far x y =
     let w = nat_abs x.den * nat_abs y.den / gcd (nat_abs x.den) (nat_abs y.den) in
-    nat_lt (2 ^ 40) w || nat_lt (2 ^ 40) (nat_abs x.num * (w / nat_abs x.den)) || nat_lt (2 ^ 40) (nat_abs y.num * (w / nat_abs y.den))
+    nat_lt largest_coordinate w || nat_lt largest_coordinate (nat_abs x.num * (w / nat_abs x.den)) || nat_lt largest_coordinate (nat_abs y.num * (w / nat_abs y.den))
 
 -- each limit with the test of whether it is passed; a text's bytes are counted before it is read
 abbrev pub limits_by : ℤ → List LineRow → ℕ → List (LimitKind × Bool)

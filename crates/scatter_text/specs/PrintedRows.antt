@@ -1,36 +1,55 @@
 -- What is printed of a wall: its heading, and its rows, which are its function's terms in x = z^d for the direction d.
--- A term of power j of x has the exponent (j, 0).
---     row_of t                 the row of a term in x
---     in_plane d t             the term with z^d for x
---     AreAlong d rows f        f are the terms `rows` in x, with z^d for x
+--     row_of                   the row that the program has
+--     row_order                how two rows stand
+--     AreAlong d rows f        f are the rows' terms, with z^d for x
 --     IsHeading                the heading of a wall
-use Rattle.std.specs.Prelude.{◌≡◌, ℕ, ◌≤◌, ◌^◌, List, map, pos, nat_abs, ◌≤ℤ◌}
+--     Continues, ContinuesSome, ContinuesRatio        by what a text is continued
+use Rattle.std.specs.Prelude.{◌≡◌, ℕ, cond, List, [], ◌∷◌, ◌++◌, map, ℤ, String, string_bytes}
+use Rattle.std.specs.declared.cmp.Ordering.{Ordering}
+use Rattle.std.specs.declared.cmp.Ordering.TheVariants.{Less, Equal, Greater}
 use Rattle.scattering.specs.Collections.{Every}
-use Rattle.scattering.specs.Series.{Exp, Term, Sum, scale, IsMultiple}
+use Rattle.scattering.specs.Series.{Exp, Term, Sum, rest, IsMultiple}
 use Rattle.scattering.specs.Plane.{Point}
-use Rattle.scatter_text.specs.DiagramText.{Row, IsLowest, heading_text}
+use Rattle.trunc_series.specs.Shown.{powers_of}
+use Rattle.scatter_text.specs.DiagramText.{Row, row_before, row_term, IsRatioOf, heading_text}
+use Rattle.scatter_text.specs.Grammar.{coordinate_text}
+use Rattle.scatter_text.specs.declared.along.PrintedRow.{PrintedRow}
 use Rattle.scatter_text.specs.declared.file.Coordinate.{Coordinate}
 
-abbrev pub row_of : Term → Row
-row_of t = record { c = t.1; j = nat_abs t.0.exp.a; powers = t.0.powers }
+-- the text is continued by this piece
+abbrev pub Continues : {Y : Type 0} → String Y → String Y → List ℕ → Type 0
+Continues old new piece = string_bytes new ≡ string_bytes old ++ piece
 
-abbrev pub in_plane : Exp → Term → Term
-in_plane d t = (record { powers = t.0.powers; exp = scale t.0.exp.a d }, t.1)
+-- the text is continued by such a piece
+abbrev pub ContinuesSome : {Y : Type 0} → String Y → String Y → (List ℕ → Type 0) → Type 0
+ContinuesSome old new P = (piece : List ℕ) × P piece × Continues old new piece
 
--- x stands at least once in it
-abbrev pub IsFlat : Exp → Type 0
-IsFlat m = (pos 1 ≤ℤ m.a) × (m.b ≡ pos 0)
+-- the text is continued by a space and x/w in lowest terms
+abbrev pub ContinuesRatio : {Y : Type 0} → String Y → String Y → ℤ → ℤ → Type 0
+ContinuesRatio old new x w = (q : Coordinate) × IsRatioOf x w q × Continues old new (32 ∷ coordinate_text q)
 
-pub record AreAlong (d : Exp) (rows f : Sum) : Type 0 where
-  pub flat : Every (λ t. IsFlat t.0.exp) rows
-  pub same : map (in_plane d) rows ≡ f
+abbrev pub row_of : PrintedRow → Row
+row_of r = record { c = r.c; j = r.j; powers = powers_of r.powers }
 
--- a positive multiple of d with small numbers
-pub record IsSmallMultiple (d m : Exp) : Type 0 where
-  pub multiple : IsMultiple d m
-  pub a : nat_abs m.a ≤ 2 ^ 16
-  pub b : nat_abs m.b ≤ 2 ^ 16
+-- how two rows stand
+abbrev pub row_order : Row → Row → Ordering
+row_order r s = cond (row_before r s) Less (cond (row_before s r) Greater Equal)
+
+abbrev pub printed_order : PrintedRow → PrintedRow → Ordering
+printed_order r s = row_order (row_of r) (row_of s)
+
+-- f are the rows' terms, in their order
+abbrev pub AreAlong : Exp → List Row → Sum → Type 0
+AreAlong d rows f = map (row_term d) rows ≡ f
+
+-- the exponents of f's terms other than 1 are positive multiples of d
+abbrev pub AreMultiples : Exp → Sum → Type 0
+AreMultiples d f = Every (λ t. IsMultiple d t.0.exp) (rest f)
+
+-- the new rows are the old ones and that of a term more, unless the term is 1
+abbrev pub IsAlongMore : Exp → List Row → List Row → Term → Type 0
+IsAlongMore d old new t = map (row_term d) new ≡ map (row_term d) old ++ rest (t ∷ [])
 
 -- the heading of a wall at p in direction d
 abbrev pub IsHeading : List ℕ → Exp → Point → List ℕ → Type 0
-IsHeading word d p text = (x y : Coordinate) × IsLowest p.x p.w x × IsLowest p.y p.w y × (text ≡ heading_text word d x y)
+IsHeading word d p text = (x y : Coordinate) × IsRatioOf p.x p.w x × IsRatioOf p.y p.w y × (text ≡ heading_text word d x y)

@@ -13,7 +13,7 @@ abbrev pub rows_of : Stage → List Row
 rows_of Start = []
 rows_of Version = row.Scatter (pos 1) ∷ []
 rows_of (Head vars) = head_rows vars
-rows_of (Body vars lines last) = rows_onto (fold rows_onto (head_rows vars) lines.items) last
+rows_of (Body vars lines last) = rows_onto (fold rows_onto (head_rows vars) lines.items) last.row
 rows_of (Whole vars lines) = row.End ∷ fold rows_onto (head_rows vars) lines.items
 
 -- more is the rows before and that of a good line

@@ -1,20 +1,20 @@
 -- The rules on the values of a file.
 use Rattle.std.specs.Prelude.{◌≡◌, ◌≢◌, ℕ, ◌≤ℤ◌, ℤ, pos, nat_abs, length, All, AllPairs, List}
-use Rattle.std.specs.Int.{◌∣◌}
+use Rattle.std.specs.Int.{IsGcd}
+use Rattle.frac_128.specs.Quotient.{IsLowest}
 use Rattle.scatter_text.specs.declared.file.Coordinate.{Coordinate}
 use Rattle.scatter_text.specs.declared.file.TermRow.{TermRow}
 use Rattle.scatter_text.specs.declared.file.LineRow.{LineRow}
 
 -- no common divisor but 1
 abbrev pub AreCoprime : ℕ → ℕ → Type 0
-AreCoprime a b = (d : ℕ) → d ∣ a → d ∣ b → d ≡ 1
+AreCoprime a b = IsGcd a b 1
 
 -- in lowest terms, over a denominator of at least 1
-pub record IsCoordinate (c : Coordinate) : Type 0 where
-  pub positive : pos 1 ≤ℤ c.den
-  pub lowest : AreCoprime (nat_abs c.num) (nat_abs c.den)
+abbrev pub IsCoordinate : Coordinate → Type 0
+IsCoordinate c = IsLowest c.num c.den
 
-pub record IsTerm (t : TermRow) : Type 0 where
+pub record IsTermRow (t : TermRow) : Type 0 where
   pub coefficient : t.c ≢ pos 0
   pub multiple : pos 1 ≤ℤ t.j
   pub no_negative_power : All (λ a. pos 0 ≤ℤ a) t.powers
@@ -26,7 +26,7 @@ AreAlike s t = (s.j ≡ t.j) × (s.powers ≡ t.powers)
 
 -- the terms of a line's function in that many variables
 pub record AreTerms (vars : ℤ) (terms : List TermRow) : Type 0 where
-  pub each : All IsTerm terms
+  pub each : All IsTermRow terms
   pub variables : All (λ t. length t.powers ≡ nat_abs vars) terms
   pub different : AllPairs (λ s t. ¬ AreAlike s t) terms
 
@@ -37,5 +37,5 @@ pub record IsLine (vars : ℤ) (l : LineRow) : Type 0 where
   pub terms : AreTerms vars l.terms
 
 -- the lines of a file in that many variables
-abbrev pub AreLines : ℤ → List LineRow → Type 0
-AreLines vars lines = All (IsLine vars) lines
+abbrev pub AreLineRows : ℤ → List LineRow → Type 0
+AreLineRows vars lines = All (IsLine vars) lines

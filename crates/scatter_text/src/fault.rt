@@ -58,23 +58,24 @@ pub enum TextFault {
 /// A limit that a file passes. They are tested in the order of the variants.
 #[derive(Clone, Copy, Debug, PartialEq, Eq)]
 pub enum LimitKind {
-    /// More than 1048576 bytes of text.
+    /// More than `limits::MOST_BYTES` bytes of text.
     Bytes,
-    /// More than 8 variables.
+    /// More than `limits::MOST_VARIABLES` variables.
     Vars,
-    /// More than 131072 monomials in the variables up to the order.
+    /// More than `limits::MOST_MONOMIALS` monomials in the variables up to the order.
     Size,
-    /// More than 16 lines.
+    /// More than `limits::MOST_LINES` lines.
     Lines,
-    /// More than 64 terms on a line.
+    /// More than `limits::MOST_TERMS` terms on a line.
     Terms,
-    /// A coefficient above 2147483647 in absolute value.
+    /// A coefficient above `limits::LARGEST_COEFFICIENT` in absolute value.
     Coefficient,
-    /// An exponent of a line's direction, or of a term, above 64 in absolute value.
+    /// An exponent of a line's direction, or of a term, above `limits::LARGEST_GIVEN_EXPONENT` in absolute value.
     Exponent,
-    /// A power of a variable above 255.
+    /// A power of a variable above `limits::LARGEST_POWER`.
     Power,
-    /// A line's point that isn't near: over the least common denominator, a number above 2^40.
+    /// A line's point that isn't near: over the least common denominator, a number above
+    /// `limits::LARGEST_COORDINATE`.
     Place,
 }
 

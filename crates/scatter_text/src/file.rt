@@ -1,8 +1,9 @@
 // What a text says: lines in the plane, each with the terms of its function.
-ghost use Rattle.scatter_text.specs.Values.{AreLines};
-ghost use Rattle.std.specs.Prelude.{◌≤ℤ◌, pos};
+ghost use Rattle.scatter_text.specs.Values.{AreLineRows};
+ghost use Rattle.std.specs.Prelude.{◌≡◌, ◌≤ℤ◌, pos, IfOk};
 
 use crate::rows::Rows;
+use std::alloc::{AllocError, Global};
 
 /// The rational number num/den.
 #[derive(Clone, Copy, Debug, PartialEq, Eq)]
@@ -19,6 +20,29 @@ pub struct TermRow {
     pub powers: Rows<i64>,
 }
 
+impl TermRow {
+    /// A copy.
+    pub fn copy(&self) -> Result<TermRow, AllocError>
+        ensures { IfOk result (λ term. term ≡ self.now) }
+    {
+        Ok(TermRow {
+            c: self.c,
+            j: self.j,
+            powers: self.powers.copy()?,
+        })
+    }
+}
+
+fn copied_terms(alloc: Global, terms: &[TermRow]) -> Result<Vec<TermRow>, AllocError>
+    ensures { IfOk result (λ copies. copies.items ≡ terms.now) }
+{
+    let mut copies = Vec::with_capacity(alloc, terms.len())?;
+    for term in terms {
+        copies.push(term.copy()?)?;
+    }
+    Ok(copies)
+}
+
 /// A line in direction (dx, dy) through the point (x, y). Its function is 1 plus its terms.
 #[derive(Drop)]
 pub struct LineRow {
@@ -29,11 +53,51 @@ pub struct LineRow {
     pub terms: Rows<TermRow>,
 }
 
+impl LineRow {
+    /// A copy.
+    pub fn copy(&self) -> Result<LineRow, AllocError>
+        ensures { IfOk result (λ line. line ≡ self.now) }
+    {
+        let terms = copied_terms(self.terms.allocator(), self.terms.as_slice())?;
+        Ok(LineRow {
+            dx: self.dx,
+            dy: self.dy,
+            x: self.x,
+            y: self.y,
+            terms: Rows::from_vec(terms),
+        })
+    }
+}
+
+fn copied_lines(alloc: Global, lines: &[LineRow]) -> Result<Vec<LineRow>, AllocError>
+    ensures { IfOk result (λ copies. copies.items ≡ lines.now) }
+{
+    let mut copies = Vec::with_capacity(alloc, lines.len())?;
+    for line in lines {
+        copies.push(line.copy()?)?;
+    }
+    Ok(copies)
+}
+
 /// The lines of a diagram, in `vars` variables.
 #[derive(Drop)]
 pub struct TextFile {
     pub vars: i64,
     pub lines: Rows<LineRow>,
     pub ghost variables: { pos 1 ≤ℤ vars },
-    pub ghost valid: { AreLines vars lines },
+    pub ghost valid: { AreLineRows vars lines },
+}
+
+impl TextFile {
+    /// A copy.
+    pub fn copy(&self) -> Result<TextFile, AllocError>
+        ensures vars { IfOk result (λ file. file.vars ≡ self.now.vars) }
+        ensures lines { IfOk result (λ file. file.lines ≡ self.now.lines) }
+    {
+        let lines = copied_lines(self.lines.allocator(), self.lines.as_slice())?;
+        Ok(TextFile {
+            vars: self.vars,
+            lines: Rows::from_vec(lines),
+        })
+    }
 }

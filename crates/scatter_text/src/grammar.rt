@@ -1,7 +1,6 @@
 // The words of the format and what a line says.
-ghost use Rattle.std.specs.Prelude.{◌≡◌, ℕ, IsTrue, ◌↔◌, MatchOption, Contains};
-ghost use Rattle.scatter_text.specs.Grammar.{word_of, words_at};
-ghost use Rattle.scatter_text.specs.declared.grammar.Keyword.{Keyword};
+ghost use Rattle.std.specs.Prelude.{◌≡◌, MatchOption, Contains};
+ghost use Rattle.scatter_text.specs.Grammar.{word_of, words_at, BeginsNowhere};
 
 use crate::file::{Coordinate, TermRow};
 
@@ -56,7 +55,8 @@ impl Place {
 
     /// The allowed word that a token spells.
     pub fn keyword(self, token: &[u8]) -> Option<Keyword>
-        ensures { MatchOption result ((k : Keyword) → Contains (words_at self) k → token.now ≡ word_of k → ⊥) (λ k. Contains (words_at self) k × (token.now ≡ word_of k)) }
+        ensures { MatchOption result (BeginsNowhere self token.now)
+            (λ k. Contains (words_at self) k × (token.now ≡ word_of k)) }
     {
         let words = self.words();
         for k in words {

@@ -3,27 +3,25 @@
 #![tactic(auto)]
 
 mod along;
-mod divisor;
 mod fault;
 mod file;
 mod grammar;
 mod initial;
 mod laws;
-mod limits;
+mod limit_checks;
 mod line;
 mod number;
+mod open_line;
 mod printing;
 mod reading;
 mod rows;
 mod stage;
-#[cfg(test)]
-mod tests;
 
 pub use fault::{LimitKind, TextFault, TextKind};
 pub use file::{Coordinate, LineRow, TermRow, TextFile};
 pub use initial::initial_of;
 pub use laws::one_text;
-pub use limits::check_limits;
+pub use limit_checks::check_limits;
 pub use printing::write_diagram;
 pub use reading::{one_outcome, read_text};
 pub use rows::Rows;

@@ -1,10 +1,7 @@
 // One line of a text: its tests in their order, and the row that it says.
-ghost use Rattle.std.specs.Prelude.{◌≡◌, ◌≢◌, ◌≤◌, [], IsTrue, ◌↔◌, All, Some, ◌<◌, List, map, length, slice_get, IfOk, MatchOption};
-ghost use Rattle.std.specs.Fmt.{signed_decimal};
-ghost use Rattle.scatter_text.specs.Grammar.{word_of, form, HasForm, AreSpelled, IsNumberText, IsShort, tokens_of, place_after, vars_of, IsBadLine};
-ghost use Rattle.scatter_text.specs.Reading.{Say, AreBadTokens, IsRowOf, IsUnvaluedLine, AreLineTexts, IsLineOf, AreTermTexts, IsTermOf};
-ghost use Rattle.scatter_text.specs.declared.fault.TextKind.{TextKind};
-ghost use Rattle.scatter_text.specs.declared.grammar.Row.{Row};
+ghost use Rattle.std.specs.Prelude.{◌≡◌, ◌≢◌, ◌≤◌, [], IsTrue, ◌↔◌, All, Some, ◌<◌, map, length, slice_get, IfOk, MatchOption};
+ghost use Rattle.scatter_text.specs.Grammar.{word_of, form, HasForm, AreSpelled, IsNumberText, tokens_of};
+ghost use Rattle.scatter_text.specs.Reading.{Say, AreBadTokens, IsRowOf, IfBad, IsUnvaluedAt, IsBadAt, AreNumbersOf, AreLineTexts, IsLineRowOf, AreTermTexts, IsTermRowOf};
 
 use crate::fault::TextKind;
 use crate::file::TermRow;
@@ -44,8 +41,8 @@ impl From<AllocError> for LineFault {
 
 /// What a line says at a place, but for the rules on values.
 pub fn row_at(alloc: Global, place: Place, vars: i64, line: &[u8]) -> Result<Row, LineFault>
-    ensures ok { IfOk result (λ r. (before : List Row) → place_after before ≡ place → vars_of before ≡ vars → IsUnvaluedLine before line.now r) }
-    ensures bad { (kind : TextKind) → result ≡ Err (LineFault.Bad kind) → (before : List Row) → place_after before ≡ place → vars_of before ≡ vars → IsBadLine before line.now kind }
+    ensures ok { IfOk result (IsUnvaluedAt place vars line.now) }
+    ensures bad { IfBad result (IsBadAt place vars line.now) }
 {
     if !is_printable(line) {
         return Err(LineFault::Bad(TextKind::Byte));
@@ -61,7 +58,7 @@ pub fn row_at(alloc: Global, place: Place, vars: i64, line: &[u8]) -> Result<Row
 fn row_from(alloc: Global, place: Place, vars: i64, tokens: &[&[u8]]) -> Result<Row, LineFault>
     requires { 0 < length tokens.now }
     ensures ok { IfOk result (Say place vars (map (λ t. t.now) tokens.now)) }
-    ensures bad { (kind : TextKind) → result ≡ Err (LineFault.Bad kind) → AreBadTokens place vars (map (λ t. t.now) tokens.now) kind }
+    ensures bad { IfBad result (AreBadTokens place vars (map (λ t. t.now) tokens.now)) }
 {
     match place.keyword(tokens[0]) {
         Some(keyword) => {
@@ -123,7 +120,9 @@ fn row_of(
     tokens: &[&[u8]],
 ) -> Result<Option<Row>, AllocError>
     requires { HasForm (form keyword vars) (map (λ t. t.now) tokens.now) }
-    ensures { IfOk result (λ row. MatchOption row (¬ AreSpelled (form keyword vars) (map (λ t. t.now) tokens.now)) (IsRowOf keyword vars (map (λ t. t.now) tokens.now))) }
+    ensures { IfOk result (λ row. MatchOption row
+        (¬ AreSpelled (form keyword vars) (map (λ t. t.now) tokens.now))
+        (IsRowOf keyword vars (map (λ t. t.now) tokens.now))) }
 {
     match keyword {
         Keyword::Scatter => match number(tokens[1]) {
@@ -141,7 +140,8 @@ fn row_of(
 }
 
 fn line_of(dx: &[u8], dy: &[u8], x: &[u8], y: &[u8]) -> Option<Row>
-    ensures { MatchOption result (¬ AreLineTexts dx.now dy.now x.now y.now) (IsLineOf dx.now dy.now x.now y.now) }
+    ensures { MatchOption result (¬ AreLineTexts dx.now dy.now x.now y.now)
+        (IsLineRowOf dx.now dy.now x.now y.now) }
 {
     let Some(dx) = number(dx) else { return None };
     let Some(dy) = number(dy) else { return None };
@@ -151,7 +151,9 @@ fn line_of(dx: &[u8], dy: &[u8], x: &[u8], y: &[u8]) -> Option<Row>
 }
 
 fn term_of(alloc: Global, c: &[u8], j: &[u8], powers: &[&[u8]]) -> Result<Option<Row>, AllocError>
-    ensures { IfOk result (λ row. MatchOption row (¬ AreTermTexts c.now j.now (map (λ t. t.now) powers.now)) (IsTermOf c.now j.now (map (λ t. t.now) powers.now))) }
+    ensures { IfOk result (λ row. MatchOption row
+        (¬ AreTermTexts c.now j.now (map (λ t. t.now) powers.now))
+        (IsTermRowOf c.now j.now (map (λ t. t.now) powers.now))) }
 {
     let powers = numbers(alloc, powers)?;
     match (number(c), number(j), powers) {
@@ -165,7 +167,8 @@ fn term_of(alloc: Global, c: &[u8], j: &[u8], powers: &[&[u8]]) -> Result<Option
 
 /// The numbers that tokens spell, if each spells one.
 fn numbers(alloc: Global, tokens: &[&[u8]]) -> Result<Option<Vec<i64>>, AllocError>
-    ensures { IfOk result (λ o. MatchOption o (¬ All IsNumberText (map (λ t. t.now) tokens.now)) (λ v. All IsShort v.items × (map (λ t. t.now) tokens.now ≡ map signed_decimal v.items))) }
+    ensures { IfOk result (λ o. MatchOption o (¬ All IsNumberText (map (λ t. t.now) tokens.now))
+        (λ v. AreNumbersOf (map (λ t. t.now) tokens.now) v.items)) }
 {
     let mut values = Vec::with_capacity(alloc, tokens.len())?;
     for token in tokens {

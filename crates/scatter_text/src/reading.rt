@@ -1,6 +1,8 @@
 // Reading a text line by line, by what the rows before a line allow.
-ghost use Rattle.std.specs.Prelude.{◌≡◌, List, ℕ, ◌≤◌, ◌^◌, [], ◌∷◌, length, IfOk};
+ghost use Rattle.std.specs.Prelude.{◌≡◌, List, ℕ, ◌≤◌, [], ◌∷◌, length, IfOk};
+ghost use Rattle.limits.specs.Limits.{most_bytes};
 ghost use Rattle.scatter_text.specs.Grammar.{IsTextOf, IsTextFault, file_text, file_rows, IsBadLine, IsFaultAfter};
+ghost use Rattle.scatter_text.specs.Reading.{IfBad};
 ghost use Rattle.scatter_text.specs.Stages.{rows_of, Follows, AreRead};
 ghost use Rattle.scatter_text.specs.declared.fault.TextKind.{TextKind};
 ghost use Rattle.scatter_text.specs.declared.file.TextFile.{TextFile};
@@ -14,12 +16,12 @@ use crate::stage::Stage;
 use std::alloc::Global;
 
 /// The file that a text says, or `Bad` with its first fault: the line, counted from 1, and the kind. `Memory` may come on any text.
-/// A line takes time in the number of terms that the same line of the diagram has already.
 pub fn read_text(alloc: Global, bytes: &[u8]) -> Result<TextFile, TextFault>
-    requires { length bytes.now ≤ 2 ^ 20 }
+    requires { length bytes.now ≤ most_bytes }
     ensures file { IfOk result (IsTextOf bytes.now) }
     ensures spelling { IfOk result (λ file. bytes.now ≡ file_text file) }
-    ensures fault { (line : ℕ) (kind : TextKind) → result ≡ Err (TextFault.Bad line kind) → IsTextFault bytes.now line kind }
+    ensures fault { (line : ℕ) (kind : TextKind) → result ≡ Err (TextFault.Bad line kind)
+        → IsTextFault bytes.now line kind }
 {
     let mut stage = Stage::Start;
     let mut rest = bytes;
@@ -37,14 +39,18 @@ pub fn read_text(alloc: Global, bytes: &[u8]) -> Result<TextFile, TextFault>
 
 /// No text has both a file and a fault, nor two faults, nor two files.
 pub fn one_outcome()
-    ensures file_or_fault { (bytes : List ℕ) (file : TextFile) (line : ℕ) (kind : TextKind) → IsTextOf bytes file → IsTextFault bytes line kind → ⊥ }
-    ensures one_fault { (bytes : List ℕ) (l m : ℕ) (k j : TextKind) → IsTextFault bytes l k → IsTextFault bytes m j → (l ≡ m) × (k ≡ j) }
-    ensures one_file { (bytes : List ℕ) (f g : TextFile) → IsTextOf bytes f → IsTextOf bytes g → (f.vars ≡ g.vars) × (f.lines ≡ g.lines) }
+    ensures file_or_fault { (bytes : List ℕ) (file : TextFile) (line : ℕ) (kind : TextKind)
+        → IsTextOf bytes file → IsTextFault bytes line kind → ⊥ }
+    ensures one_fault { (bytes : List ℕ) (l m : ℕ) (k j : TextKind)
+        → IsTextFault bytes l k → IsTextFault bytes m j → (l ≡ m) × (k ≡ j) }
+    ensures one_file { (bytes : List ℕ) (f g : TextFile)
+        → IsTextOf bytes f → IsTextOf bytes g → (f.vars ≡ g.vars) × (f.lines ≡ g.lines) }
 {}
 
 /// A line's fault as that of a text.
 fn at(fault: LineFault, line: u32) -> TextFault
-    ensures { (at : ℕ) (kind : TextKind) → result ≡ TextFault.Bad at kind → (at ≡ line) × (fault ≡ LineFault.Bad kind) }
+    ensures { (at : ℕ) (kind : TextKind) → result ≡ TextFault.Bad at kind
+        → (at ≡ line) × (fault ≡ LineFault.Bad kind) }
 {
     match fault {
         LineFault::Bad(kind) => TextFault::Bad { line, kind },
@@ -55,11 +61,12 @@ fn at(fault: LineFault, line: u32) -> TextFault
 /// The stage after one line more.
 fn next(alloc: Global, stage: Stage, line: &[u8]) -> Result<Stage, LineFault>
     ensures ok { IfOk result (λ more. Follows (rows_of stage) line.now (rows_of more)) }
-    ensures bad { (kind : TextKind) → result ≡ Err (LineFault.Bad kind) → IsBadLine (rows_of stage) line.now kind }
+    ensures bad { IfBad result (IsBadLine (rows_of stage) line.now) }
 {
     match row_at(alloc, stage.place(), stage.vars(), line) {
         Ok(row) => {
-            if !stage.allows(&row) {
+            let allowed = stage.allows(alloc, &row)?;
+            if !allowed {
                 return Err(LineFault::Bad(TextKind::Value));
             }
             match stage.with(alloc, row) {
@@ -75,7 +82,8 @@ fn next(alloc: Global, stage: Stage, line: &[u8]) -> Result<Stage, LineFault>
 fn finish(stage: Stage, rest: &[u8], line: u32) -> Result<TextFile, TextFault>
     requires { AreRead (rows_of stage) }
     ensures ok { IfOk result (λ file. (rest.now ≡ []) × (file_rows file ≡ rows_of stage)) }
-    ensures bad { (at : ℕ) (kind : TextKind) → result ≡ Err (TextFault.Bad at kind) → (at ≡ line) × IsFaultAfter (rows_of stage) (rest.now ∷ []) kind }
+    ensures bad { (at : ℕ) (kind : TextKind) → result ≡ Err (TextFault.Bad at kind)
+        → (at ≡ line) × IsFaultAfter (rows_of stage) (rest.now ∷ []) kind }
 {
     if !rest.is_empty() {
         let kind = TextKind::Unfinished;

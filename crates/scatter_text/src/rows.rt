@@ -1,7 +1,7 @@
 // A list that owns its elements.
-ghost use Rattle.std.specs.Prelude.{◌≡◌, []};
+ghost use Rattle.std.specs.Prelude.{◌≡◌, [], IfOk};
 
-use std::alloc::Global;
+use std::alloc::{AllocError, Global};
 use std::marker::Model;
 
 /// A list, made from a `Vec` and given back as one. Contracts see the list of the elements.
@@ -31,6 +31,10 @@ impl<T> Rows<T> {
         }
     }
 
+    pub(crate) fn allocator(&self) -> Global {
+        *self.items.allocator()
+    }
+
     /// The elements in place, as a slice.
     pub fn as_slice(&self) -> &[T]
         ensures { result.now ≡ self.now }
@@ -50,5 +54,15 @@ impl<T> Rows<T> {
         ensures { result ≡ items.items }
     {
         Self { items }
+    }
+}
+
+impl<T: Copy> Rows<T> {
+    /// A copy.
+    pub fn copy(&self) -> Result<Self, AllocError>
+        ensures { IfOk result (λ rows. rows ≡ self.now) }
+    {
+        let items = Vec::from_slice(self.allocator(), self.items.as_slice())?;
+        Ok(Self { items })
     }
 }

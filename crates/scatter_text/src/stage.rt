@@ -1,13 +1,13 @@
 // How far a text is read: the rows so far, as the file that they begin.
 ghost use Rattle.std.specs.Prelude.{◌≡◌, [], ◌∷◌, ◌++◌, IsTrue, ◌↔◌, IfOk, Contains, All, nat_abs, pos, ◌≤ℤ◌};
-ghost use Rattle.scatter_text.specs.Grammar.{place_after, vars_of, terms_before, keyword_of, words_at, HasValues};
+ghost use Rattle.scatter_text.specs.Grammar.{place_after, vars_of, keyword_of, words_at, HasValues, IsNewTerm, IsTermAfter};
 ghost use Rattle.scatter_text.specs.Stages.{rows_of};
-ghost use Rattle.scatter_text.specs.Values.{AreCoprime, IsTerm, AreAlike};
+ghost use Rattle.scatter_text.specs.Values.{AreCoprime, IsTermRow};
 
-use crate::divisor::are_coprime;
 use crate::file::{Coordinate, LineRow, TermRow};
 use crate::grammar::{Place, Row};
-use crate::rows::Rows;
+use crate::open_line::OpenLine;
+use frac_128::gcd;
 use std::alloc::{AllocError, Global};
 
 /// What the rows so far say.
@@ -23,7 +23,7 @@ pub enum Stage {
     Body {
         vars: i64,
         lines: Vec<LineRow>,
-        last: LineRow,
+        last: OpenLine,
     },
     /// The text has ended.
     Whole {
@@ -59,25 +59,36 @@ impl Stage {
     }
 
     /// Whether the rules on values hold of a row that comes next.
-    pub fn allows(&self, row: &Row) -> bool
-        ensures { IsTrue result ↔ HasValues (rows_of self.now) row.now }
+    pub fn allows(&self, alloc: Global, row: &Row) -> Result<bool, AllocError>
+        ensures { IfOk result (λ b. IsTrue b ↔ HasValues (rows_of self.now) row.now) }
     {
         match row {
-            Row::Scatter(version) => *version == 1,
-            Row::Vars(vars) => *vars >= 1,
-            Row::Line { dx, dy, .. } => is_primitive(*dx, *dy),
-            Row::Term(term) => is_term(term) && self.is_new(term),
-            Row::End => true,
+            Row::Scatter(version) => Ok(*version == 1),
+            Row::Vars(vars) => Ok(*vars >= 1),
+            Row::Line { dx, dy, .. } => Ok(is_primitive(*dx, *dy)),
+            Row::Term(term) => self.allows_term(alloc, term),
+            Row::End => Ok(true),
+        }
+    }
+
+    /// Whether the rules on values hold of a term that comes next.
+    fn allows_term(&self, alloc: Global, term: &TermRow) -> Result<bool, AllocError>
+        ensures { IfOk result (λ b. IsTrue b ↔ IsTermAfter (rows_of self.now) term.now) }
+    {
+        if is_term(term) {
+            self.is_new(alloc, term)
+        } else {
+            Ok(false)
         }
     }
 
     /// Whether no term of the last line has the monomial of this one.
-    fn is_new(&self, term: &TermRow) -> bool
-        ensures { IsTrue result ↔ All (λ earlier. ¬ AreAlike earlier term.now) (terms_before (rows_of self.now)) }
+    fn is_new(&self, alloc: Global, term: &TermRow) -> Result<bool, AllocError>
+        ensures { IfOk result (λ b. IsTrue b ↔ IsNewTerm (rows_of self.now) term.now) }
     {
         match self {
-            Stage::Body { last, .. } => differs(last.terms.as_slice(), term),
-            _ => true,
+            Stage::Body { last, .. } => last.lacks(alloc, term),
+            _ => Ok(true),
         }
     }
 
@@ -97,7 +108,7 @@ impl Stage {
                 Row::Line { dx, dy, x, y } => Ok(Stage::Body {
                     vars,
                     lines: Vec::new(alloc),
-                    last: line(alloc, dx, dy, x, y),
+                    last: OpenLine::new(alloc, dx, dy, x, y),
                 }),
                 Row::End => Ok(Stage::Whole {
                     vars,
@@ -107,35 +118,22 @@ impl Stage {
             },
             Stage::Body { vars, lines, last } => match row {
                 Row::Line { dx, dy, x, y } => {
-                    let lines = with_line(lines, last)?;
-                    let last = line(alloc, dx, dy, x, y);
+                    let lines = with_line(lines, last.row)?;
+                    let last = OpenLine::new(alloc, dx, dy, x, y);
                     Ok(Stage::Body { vars, lines, last })
                 }
                 Row::Term(term) => {
-                    let last = with_term(last, term)?;
+                    let last = last.with(alloc, term)?;
                     Ok(Stage::Body { vars, lines, last })
                 }
                 Row::End => {
-                    let lines = with_line(lines, last)?;
+                    let lines = with_line(lines, last.row)?;
                     Ok(Stage::Whole { vars, lines })
                 }
                 _ => unreachable!(),
             },
             Stage::Whole { .. } => unreachable!(),
         }
-    }
-}
-
-/// A line without terms.
-fn line(alloc: Global, dx: i64, dy: i64, x: Coordinate, y: Coordinate) -> LineRow
-    ensures { result ≡ record { dx = dx; dy = dy; x = x; y = y; terms = [] } }
-{
-    LineRow {
-        dx,
-        dy,
-        x,
-        y,
-        terms: Rows::new(alloc),
     }
 }
 
@@ -147,38 +145,15 @@ fn with_line(mut lines: Vec<LineRow>, line: LineRow) -> Result<Vec<LineRow>, All
     Ok(lines)
 }
 
-/// The line with one term more, at the end.
-fn with_term(line: LineRow, term: TermRow) -> Result<LineRow, AllocError>
-    ensures { IfOk result (λ more. more ≡ record line { terms = line.terms ++ term ∷ [] }) }
-{
-    let LineRow {
-        dx,
-        dy,
-        x,
-        y,
-        terms,
-    } = line;
-    let mut terms = terms.into_vec();
-    terms.push(term)?;
-    let terms = Rows::from_vec(terms);
-    Ok(LineRow {
-        dx,
-        dy,
-        x,
-        y,
-        terms,
-    })
-}
-
 /// Whether a direction is primitive.
 fn is_primitive(dx: i64, dy: i64) -> bool
     ensures { IsTrue result ↔ AreCoprime (nat_abs dx) (nat_abs dy) }
 {
-    are_coprime(dx.unsigned_abs(), dy.unsigned_abs())
+    gcd(dx.unsigned_abs() as u128, dy.unsigned_abs() as u128) == 1
 }
 
 fn is_term(term: &TermRow) -> bool
-    ensures { IsTrue result ↔ IsTerm term.now }
+    ensures { IsTrue result ↔ IsTermRow term.now }
 {
     let powers = term.powers.as_slice();
     term.c != 0 && term.j >= 1 && has_no_negative(powers) && !is_zero(powers)
@@ -194,23 +169,4 @@ fn is_zero(powers: &[i64]) -> bool
     ensures { IsTrue result ↔ All (λ a. a ≡ pos 0) powers.now }
 {
     powers.iter().all(|a| *a == 0)
-}
-
-/// Whether no term of a line has the monomial of this one.
-fn differs(terms: &[TermRow], term: &TermRow) -> bool
-    ensures { IsTrue result ↔ All (λ earlier. ¬ AreAlike earlier term.now) terms.now }
-{
-    for earlier in terms {
-        if are_alike(earlier, term) {
-            return false;
-        }
-    }
-    true
-}
-
-/// Whether two terms have the same monomial.
-fn are_alike(s: &TermRow, t: &TermRow) -> bool
-    ensures { IsTrue result ↔ AreAlike s.now t.now }
-{
-    s.j == t.j && s.powers.as_slice() == t.powers.as_slice()
 }

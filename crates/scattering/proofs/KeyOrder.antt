@@ -3,7 +3,9 @@ use Rattle.std.proofs.Common.{◌≡◌, ℕ, ◌+◌, refl, sym, subst, ap, ◌
 use Rattle.std.specs.Prelude.{ℤ, ◌&&◌, ◌||◌, nat_lt, ◌==◌, ◌+ℤ◌, int_lt}
 use Rattle.std.proofs.lemmas.Int.{ints}
 use Rattle.scattering.specs.Series.{Key, Exp, Powers, key_before, exp_before, exp_eq, powers_before, int_eq, key_mul, powers_add}
-use Rattle.scattering.proofs.Keys.{exp_eq-same}
+use Rattle.scattering.proofs.Keys.{exp_eq-same, exp_eq-refl, same-powers}
+use Rattle.scattering.proofs.Lists.{or-false, and-both}
+use Rattle.scattering.proofs.Tests.{nat_lt-asym, nat_lt-trans}
 
 -- ---- one place of a lexicographic order
 
@@ -22,9 +24,6 @@ trans-step x y z true false m p q h = grind arith
 trans-step x y z false true m p q h = grind arith
 trans-step x y z false false m p q h = grind arith
 
-trans-last : (x y z : ℕ) → nat_lt x y ≡ true → nat_lt y z ≡ true → nat_lt x z ≡ true
-trans-last x y z p q = grind arith
-
 lt-add : (a x y : ℕ) → nat_lt (a + x) (a + y) ≡ nat_lt x y
 lt-add a x y = grind arith
 
@@ -33,16 +32,26 @@ eq-add a x y = grind arith
 
 -- ---- powers
 
-same-powers : (p q : Powers) → p.t1 ≡ q.t1 → p.t2 ≡ q.t2 → p.t3 ≡ q.t3 → p.t4 ≡ q.t4 → p.t5 ≡ q.t5 → p.t6 ≡ q.t6 → p.t7 ≡ q.t7 → p.t8 ≡ q.t8 → p ≡ q
-same-powers p q a b c d e f g h = λ i. record { t1 = a i; t2 = b i; t3 = c i; t4 = d i; t5 = e i; t6 = f i; t7 = g i; t8 = h i }
-
 powers_before-same : (p q : Powers) → powers_before p q ≡ false → powers_before q p ≡ false → p ≡ q
 powers_before-same p q h i =
     let a = same-step p.t1 q.t1 _ _ h i in let b = same-step p.t2 q.t2 _ _ a.1 a.2 in let c = same-step p.t3 q.t3 _ _ b.1 b.2 in let d = same-step p.t4 q.t4 _ _ c.1 c.2 in
     let e = same-step p.t5 q.t5 _ _ d.1 d.2 in let f = same-step p.t6 q.t6 _ _ e.1 e.2 in let g = same-step p.t7 q.t7 _ _ f.1 f.2 in
     same-powers p q a.0 b.0 c.0 d.0 e.0 f.0 g.0 (same-last p.t8 q.t8 g.1 g.2)
 
-powers_before-trans : (p q r : Powers) → powers_before p q ≡ true → powers_before q r ≡ true → powers_before p r ≡ true
+asym-step : (x y : ℕ) (l k : Bool) → (nat_lt x y || ((x == y) && l)) ≡ true → (nat_lt y x || ((y == x) && k)) ≡ true → (l ≡ true) × (k ≡ true)
+asym-step x y true true p q = (refl, refl)
+asym-step x y true false p q = absurd (grind arith)
+asym-step x y false true p q = absurd (grind arith)
+asym-step x y false false p q = absurd (grind arith)
+
+pub powers_before-asym : (p q : Powers) → powers_before p q ≡ true → powers_before q p ≡ true → ⊥
+powers_before-asym p q h i =
+    let a = asym-step p.t1 q.t1 _ _ h i in let b = asym-step p.t2 q.t2 _ _ a.0 a.1 in
+    let c = asym-step p.t3 q.t3 _ _ b.0 b.1 in let d = asym-step p.t4 q.t4 _ _ c.0 c.1 in
+    let e = asym-step p.t5 q.t5 _ _ d.0 d.1 in let f = asym-step p.t6 q.t6 _ _ e.0 e.1 in
+    let g = asym-step p.t7 q.t7 _ _ f.0 f.1 in nat_lt-asym p.t8 q.t8 g.0 g.1
+
+pub powers_before-trans : (p q r : Powers) → powers_before p q ≡ true → powers_before q r ≡ true → powers_before p r ≡ true
 powers_before-trans p q r h i =
     trans-step p.t1 q.t1 r.t1 _ _ _ h i (λ h i.
     trans-step p.t2 q.t2 r.t2 _ _ _ h i (λ h i.
@@ -51,7 +60,7 @@ powers_before-trans p q r h i =
     trans-step p.t5 q.t5 r.t5 _ _ _ h i (λ h i.
     trans-step p.t6 q.t6 r.t6 _ _ _ h i (λ h i.
     trans-step p.t7 q.t7 r.t7 _ _ _ h i (λ h i.
-    trans-last p.t8 q.t8 r.t8 h i)))))))
+    nat_lt-trans p.t8 q.t8 r.t8 h i)))))))
 
 powers_before-add : (x p q : Powers) → powers_before (powers_add x p) (powers_add x q) ≡ powers_before p q
 powers_before-add x p q =
@@ -65,7 +74,7 @@ exp_before-same u v p q = same-exp (grind (arith, ints)) (grind (arith, ints))
     same-exp : u.a ≡ v.a → u.b ≡ v.b → u ≡ v
     same-exp a b = λ i. record { a = a i; b = b i }
 
-exp_before-trans : (u v w : Exp) → exp_before u v ≡ true → exp_before v w ≡ true → exp_before u w ≡ true
+pub exp_before-trans : (u v w : Exp) → exp_before u v ≡ true → exp_before v w ≡ true → exp_before u w ≡ true
 exp_before-trans u v w p q = grind (arith, ints)
 
 int_lt-add : (a x y : ℤ) → int_lt (a +ℤ x) (a +ℤ y) ≡ int_lt x y
@@ -76,20 +85,9 @@ int_eq-add a x y = grind (arith, ints)
 
 -- ---- keys
 
-or-false : (a b : Bool) → (a || b) ≡ false → (a ≡ false) × (b ≡ false)
-or-false true b e = absurd (cc)
-or-false false b e = (refl, e)
-
 or-cases : (a b : Bool) → (a || b) ≡ true → (a ≡ true) ⊎ ((a ≡ false) × (b ≡ true))
 or-cases true b e = inl refl
 or-cases false b e = inr (refl, e)
-
-and-both : (a b : Bool) → (a && b) ≡ true → (a ≡ true) × (b ≡ true)
-and-both true b e = (refl, e)
-and-both false b e = absurd (cc)
-
-exp_eq-refl : (u : Exp) → exp_eq u u ≡ true
-exp_eq-refl u = grind (arith, ints)
 
 pub key_before-same : (k l : Key) → key_before k l ≡ false → key_before l k ≡ false → k ≡ l
 key_before-same k l p q =

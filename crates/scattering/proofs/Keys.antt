@@ -1,8 +1,8 @@
 -- The tests of exponents, keys and points decide equality.
 use Rattle.std.proofs.Common.{◌≡◌, ◌≢◌, refl, sym, subst, ap, inl, inr, ◌⊎◌, Bool, true, false, ◌&&◌, arith}
-use Rattle.std.specs.Prelude.{ℤ}
+use Rattle.std.specs.Prelude.{ℤ, pos, ◌+ℤ◌}
 use Rattle.std.proofs.lemmas.Int.{ints}
-use Rattle.scattering.specs.Series.{Exp, Powers, Key, Term, int_eq, exp_eq, powers_eq, key_eq, degree, origin}
+use Rattle.scattering.specs.Series.{Exp, Powers, Key, Term, int_eq, exp_eq, powers_eq, key_eq, key_mul, unit, degree, origin}
 use Rattle.scattering.specs.Plane.{Point, point_eq}
 use Rattle.scattering.proofs.Lists.{and-left, and-right}
 
@@ -67,3 +67,13 @@ key_eq-apart t k h = go (key_eq t.0 k) refl
     go : (b : Bool) → key_eq t.0 k ≡ b → key_eq t.0 k ≡ false
     go true e = absurd (h (ap degree (key_eq-same t.0 k e)))
     go false e = e
+
+-- 1 is the unit of the product of keys
+pub unit-mul : (k : Key) → key_mul unit k ≡ k
+unit-mul k = λ i. record { powers = powers i; exp = record { a = none k.exp.a i; b = none k.exp.b i } }
+  where
+    none : (x : ℤ) → pos 0 +ℤ x ≡ x
+    none x = omega (arith, ints)
+
+    powers : (key_mul unit k).powers ≡ k.powers
+    powers = same-powers _ k.powers (omega arith) (omega arith) (omega arith) (omega arith) (omega arith) (omega arith) (omega arith) (omega arith)

@@ -1,7 +1,7 @@
 -- Lists: what holds of every element, of every pair, and which elements a list has.
 use Rattle.std.proofs.Common.{◌≡◌, refl, subst, sym, ◌∙◌, ap, List, [], ◌∷◌, ◌++◌, map, Bool, true, false, inl, inr, ◌⊎◌, not}
 use Rattle.std.specs.Prelude.{filter, flat_map, ◌||◌, ◌&&◌}
-use Rattle.std.specs.List.{list_any}
+use Rattle.std.specs.List.{list_any, list_all}
 use Rattle.scattering.specs.Collections.{In, Every, EveryPair, put, in_order}
 
 pub or-left : (a b : Bool) → (a || b) ≡ false → a ≡ false
@@ -19,6 +19,14 @@ and-left false b e = e
 pub and-right : (a b : Bool) → (a && b) ≡ true → b ≡ true
 and-right true b e = e
 and-right false b e = absurd (cc)
+
+pub or-false : (a b : Bool) → (a || b) ≡ false → (a ≡ false) × (b ≡ false)
+or-false true b e = absurd (cc)
+or-false false b e = (refl, e)
+
+pub and-both : (a b : Bool) → (a && b) ≡ true → (a ≡ true) × (b ≡ true)
+and-both true b e = (refl, e)
+and-both false b e = absurd (cc)
 
 pub Every-implies : {A : Type 0} (P Q : A → Type 0) (xs : List A) → ((x : A) → P x → Q x) → Every P xs → Every Q xs
 Every-implies P Q [] i h = tt
@@ -72,6 +80,15 @@ pairs-append R (x ∷ xs) ys h i c = (Every-append (R x) xs ys h.0 c.0, pairs-ap
 pub pairs-all : {A : Type 0} (Q : A → Type 0) (R : A → A → Type 0) (xs : List A) → ((x y : A) → Q x → Q y → R x y) → Every Q xs → EveryPair R xs
 pairs-all Q R [] r h = tt
 pairs-all Q R (x ∷ xs) r h = (Every-implies Q (R x) xs (λ y q. r x y h.0 q) h.1, pairs-all Q R xs r h.1)
+
+pub pairs-implies : {A : Type 0} (R S : A → A → Type 0) (xs : List A) → ((x y : A) → R x y → S x y) → EveryPair R xs → EveryPair S xs
+pairs-implies R S [] i h = tt
+pairs-implies R S (x ∷ xs) i h = (Every-implies (R x) (S x) xs (i x) h.0, pairs-implies R S xs i h.1)
+
+-- what a test that all elements pass says of each
+pub all-every : {A : Type 0} (b : A → Bool) (P : A → Type 0) (xs : List A) → ((x : A) → b x ≡ true → P x) → list_all b xs ≡ true → Every P xs
+all-every b P [] f h = tt
+all-every b P (x ∷ xs) f h = (f x (and-left (b x) _ h), all-every b P xs f (and-right (b x) _ h))
 
 pub any-weaken : {A : Type 0} (P Q : A → Bool) (xs : List A) → ((x : A) → P x ≡ false → Q x ≡ false) → list_any P xs ≡ false → list_any Q xs ≡ false
 any-weaken P Q [] i e = refl

@@ -6,6 +6,7 @@ use Rattle.scattering.specs.Series.{Key, Sum, key_eq, coef, minus, SameTo, degre
 use native.Mathlib.Decide.{dec_le}
 use Rattle.scattering.proofs.Ring.{dif-up, dif-pos, dif-add, dif-neg, dif-mul, dif-same}
 use Rattle.scattering.proofs.Keys.{key_eq-same, key_eq-refl}
+use Rattle.sum_algebra.proofs.Integers.{neg-mul}
 
 -- the sum of c·φ(key) over the terms
 abbrev pub pairing : (Key → ℤ) → Sum → ℤ
@@ -83,9 +84,6 @@ pairing-append φ (t ∷ f) g = rw (pairing-append φ f g) (omega (arith, ints))
 pub coef-append : (f g : Sum) (x : Key) → coef (f ++ g) x ≡ coef f x +ℤ coef g x
 coef-append [] g x = sym (skip-zero (coef g x))
 coef-append (t ∷ f) g x = rw (coef-append f g x) (omega (arith, ints))
-
-neg-mul : (c p : ℤ) → neg_ℤ c *ℤ p ≡ neg_ℤ (c *ℤ p)
-neg-mul c p = rw (dif-up c, dif-up p) (simp (dif-mul, dif-add, dif-neg) (dif-same _ _ _ _ (omega arith)))
 
 neg-sum : (c d : ℤ) → neg_ℤ c +ℤ neg_ℤ d ≡ neg_ℤ (c +ℤ d)
 neg-sum c d = omega (arith, ints)

@@ -4,8 +4,9 @@
 --     IsNear p                  the numbers of p are at most 2^40
 --     FromOn p e q, Beyond p e q       q = p + s·e with s at least 0; with s above 0
 --     point_before, turns_before       the order of points; the order by angle, from (1, 0) itself
-use Rattle.std.specs.Prelude.{◌≡◌, ℕ, ◌≤◌, ◌^◌, nat_abs, Bool, not, ◌&&◌, ◌||◌, ℤ, pos, ◌+ℤ◌, ◌-ℤ◌, ◌*ℤ◌, int_lt, ◌≤ℤ◌}
+use Rattle.std.specs.Prelude.{◌≡◌, ℕ, ◌≤◌, nat_abs, Bool, not, ◌&&◌, ◌||◌, ℤ, pos, ◌+ℤ◌, ◌-ℤ◌, ◌*ℤ◌, int_lt, ◌≤ℤ◌}
 use Rattle.std.specs.Int.{◌∣◌, IsGcd}
+use Rattle.limits.specs.Limits.{largest_coordinate}
 use Rattle.scattering.specs.Series.{Exp, int_eq, det}
 
 -- (x/w, y/w)
@@ -30,7 +31,7 @@ abbrev pub point_before : Point → Point → Bool
 point_before p q = int_lt (p.x *ℤ q.w) (q.x *ℤ p.w) || (int_eq (p.x *ℤ q.w) (q.x *ℤ p.w) && int_lt (p.y *ℤ q.w) (q.y *ℤ p.w))
 
 abbrev pub IsNear : Point → Type 0
-IsNear p = (nat_abs p.x ≤ 2 ^ 40) × (nat_abs p.y ≤ 2 ^ 40) × (nat_abs p.w ≤ 2 ^ 40)
+IsNear p = (nat_abs p.x ≤ largest_coordinate) × (nat_abs p.y ≤ largest_coordinate) × (nat_abs p.w ≤ largest_coordinate)
 
 -- q - p, times the positive number p.w·q.w
 abbrev pub difference : Point → Point → Exp

@@ -2,9 +2,10 @@
 --     IsTheta ws n m q s            s is the theta of m at q: the sum of the values of all broken lines, each once
 --     IsAskFault ws n m q fault     the first check that fails, or none
 -- For m = (0, 0) the theta is 1 and only the first check is made: no tails are traced, and its weight is 1.
-use Rattle.std.specs.Prelude.{◌≡◌, ◌≢◌, ℕ, ◌+◌, ◌<◌, ◌≤◌, ◌^◌, ◌⊎◌, Bool, true, IsTrue, List, [], ◌∷◌, map, pos, Option, Some, None}
+use Rattle.std.specs.Prelude.{◌≡◌, ◌≢◌, ℕ, ◌+◌, ◌<◌, ◌≤◌, ◌⊎◌, Bool, true, IsTrue, List, [], ◌∷◌, map, pos, Option, Some, None}
 use Rattle.std.specs.Bool.{MatchBool}
 use Rattle.std.specs.List.{list_any}
+use Rattle.limits.specs.Limits.{largest_weight, most_reached, most_tails}
 use Rattle.scattering.specs.Collections.{In, Lists, MoreThan, AtMost, IsLeast}
 use Rattle.scattering.specs.Series.{Exp, Sum, det, origin, exp_eq, one, Same}
 use Rattle.scattering.specs.Plane.{Point, IsPoint, IsNear, Beyond, point_before}
@@ -57,10 +58,10 @@ MeetsNone ws n m q fault = ((p : Point) × IsLeast point_before (IsMet ws n m q)
 
 abbrev pub TailsFault : List Wall → ℕ → Exp → Point → Option AskFault → Type 0
 TailsFault ws n m q =
-    Check (MoreThan (2 ^ 18) (λ d. ReachTo ws n d n)) TooManyReach (AtMost (2 ^ 18) (λ d. ReachTo ws n d n))
-    (Check (MoreThan (2 ^ 20) (IsTail ws n m q)) TooManyTails (AtMost (2 ^ 20) (IsTail ws n m q))
+    Check (MoreThan most_reached (λ d. ReachTo ws n d n)) TooManyReach (AtMost most_reached (λ d. ReachTo ws n d n))
+    (Check (MoreThan most_tails (IsTail ws n m q)) TooManyTails (AtMost most_tails (IsTail ws n m q))
     (Check ((p : Point) × IsHit ws n m q p × (IsNear p → ⊥)) PointTooLarge ((p : Point) → IsHit ws n m q p → IsNear p)
-    (Check ((w : ℕ) × IsWeight ws n m q w × (2 ^ 126 < w)) WeightTooLarge ((w : ℕ) × IsWeight ws n m q w × (w ≤ 2 ^ 126))
+    (Check ((w : ℕ) × IsWeight ws n m q w × (largest_weight < w)) WeightTooLarge ((w : ℕ) × IsWeight ws n m q w × (w ≤ largest_weight))
     (MeetsNone ws n m q))))
 
 abbrev pub is_on_live : List Wall → Point → Bool

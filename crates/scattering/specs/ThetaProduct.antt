@@ -3,8 +3,9 @@
 --     Runs ws k q s first d a n         d steps lead to the family a with the running weight n, without a fault
 --     IsProductFault ws k l r q fault   the first fault of the product, or none
 -- A family is one series: its term c·t^P·z^r is the term c·t^P of the series at r.
-use Rattle.std.specs.Prelude.{◌≡◌, ◌≢◌, ℕ, suc, ◌+◌, ◌*◌, ◌-◌, ◌<◌, ◌≤◌, ◌^◌, ◌⊎◌, ◌==◌, IsTrue, List, [], ◌∷◌, ◌++◌, filter, flat_map, nat_abs, pos, Option, Some, None}
+use Rattle.std.specs.Prelude.{◌≡◌, ◌≢◌, ℕ, suc, ◌+◌, ◌*◌, ◌-◌, ◌<◌, ◌≤◌, ◌⊎◌, ◌==◌, IsTrue, List, [], ◌∷◌, ◌++◌, filter, flat_map, nat_abs, pos, Option, Some, None}
 use Rattle.std.specs.Bool.{MatchBool}
+use Rattle.limits.specs.Limits.{largest_weight}
 use Rattle.scattering.specs.Series.{Exp, Key, Sum, origin, exp_eq, exp_before, degree, mul, minus, coef, SameTo, IsSeries}
 use Rattle.scattering.specs.Plane.{Point}
 use Rattle.scattering.specs.Wall.{Wall}
@@ -64,7 +65,7 @@ BeginWithFault ws k q d b fault = (r : Exp) × BeginsAt b r d × IsAskFault ws (
 
 -- with the weights of step d the running weight is too large
 abbrev pub IsTooHeavy : List Wall → ℕ → Point → ℕ → Sum → ℕ → Type 0
-IsTooHeavy ws k q d b n = (w : Exp → ℕ) × AreWeights ws k q b w × (2 ^ 126 < n + weight_of w (of_degree d b))
+IsTooHeavy ws k q d b n = (w : Exp → ℕ) × AreWeights ws k q b w × (largest_weight < n + weight_of w (of_degree d b))
 
 -- before step d nothing has failed: the family and the running weight
 pub data Runs (ws : List Wall) (k : ℕ) (q : Point) (s : Sum) (first : ℕ) : ℕ → Sum → ℕ → Type 0 where
@@ -72,7 +73,7 @@ pub data Runs (ws : List Wall) (k : ℕ) (q : Point) (s : Sum) (first : ℕ) : �
   goes : {d : ℕ} {a : Sum} {n : ℕ} (b : Sum) (w : Exp → ℕ) → Runs ws k q s first d a n → IsNext ws k q s d a b
       → BeginWithoutFault ws k q d b
       → AreWeights ws k q b w
-      → n + weight_of w (of_degree d b) ≤ 2 ^ 126
+      → n + weight_of w (of_degree d b) ≤ largest_weight
       → Runs ws k q s first (suc d) b (n + weight_of w (of_degree d b))
 
 -- the fault of step d, after its terms were added
@@ -89,5 +90,5 @@ abbrev pub IsProductFault : List Wall → ℕ → Exp → Exp → Point → Opti
 IsProductFault ws k l r q fault = ((f : AskFault) × IsAskFault ws k l q (Some f) × (fault ≡ Some f))
     ⊎ (IsAskFault ws k l q None × (((f : AskFault) × IsAskFault ws k r q (Some f) × (fault ≡ Some f))
     ⊎ (IsAskFault ws k r q None × ((x y : ℕ) × IsThetaWeight ws k l q x × IsThetaWeight ws k r q y
-    × (((2 ^ 126 < x * y) × (fault ≡ Some WeightTooLarge))
-    ⊎ ((x * y ≤ 2 ^ 126) × ((s : Sum) × IsThetaProduct ws k l r q s × StepsFault ws k q s (x * y) fault)))))))
+    × (((largest_weight < x * y) × (fault ≡ Some WeightTooLarge))
+    ⊎ ((x * y ≤ largest_weight) × ((s : Sum) × IsThetaProduct ws k l r q s × StepsFault ws k q s (x * y) fault)))))))

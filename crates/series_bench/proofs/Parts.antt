@@ -3,11 +3,11 @@ use Rattle.std.proofs.Common.{◌≡◌, ℕ, ◌+◌, ◌*◌, ◌≤◌, ◌^�
 use Rattle.std.specs.Prelude.{nat_abs, nat_le}
 use Rattle.std.proofs.lemmas.Nat.{mul-le}
 use Rattle.scattering.specs.Series.{Term, Sum, degree, cut, mul, absolute, mass_to}
-use Rattle.trunc_series.specs.Shown.{Seen, IsSeriesOf, IsNear}
+use Rattle.trunc_series.specs.Shown.{Seen, IsSeriesOf, HasNearTerms}
 use Rattle.trunc_series.specs.Laws.{SeriesHasLeastMass, SeriesStaysNear, SumsStayNear, MassesAdd, MassesMultiply}
 use Rattle.series_bench.specs.Factor.{IsPart}
 
-pub made-part : SeriesHasLeastMass → SeriesStaysNear → (count : ℕ) (s : Seen) (f : Sum) → IsSeriesOf s 24 f → IsNear f → mass_to 24 f ≤ count * 2 ^ 20 → IsPart count s
+pub made-part : SeriesHasLeastMass → SeriesStaysNear → (count : ℕ) (s : Seen) (f : Sum) → IsSeriesOf s 24 f → HasNearTerms f → mass_to 24 f ≤ count * 2 ^ 20 → IsPart count s
 made-part least stays count s f h near mass = record {
   order = h.order;
   near = stays s 24 f h near;
@@ -15,10 +15,10 @@ made-part least stays count s f h near mass = record {
 }
 
 -- a term alone, without it where its degree is above the order
-pub near-one : (t : Term) → IsNear (t ∷ []) → IsNear (cut 24 (t ∷ []))
+pub near-one : (t : Term) → HasNearTerms (t ∷ []) → HasNearTerms (cut 24 (t ∷ []))
 near-one t h = go (nat_le (degree t.0) 24)
   where
-    go : (b : Bool) → IsNear (cond b (t ∷ []) [])
+    go : (b : Bool) → HasNearTerms (cond b (t ∷ []) [])
     go true = h
     go false = tt
 

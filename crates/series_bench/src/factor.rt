@@ -1,9 +1,11 @@
 // The factors that are multiplied.
 
 ghost use Rattle.std.specs.Prelude.{◌≡◌, ◌≤◌, ◌<◌, ◌-◌, ◌^◌, [], ◌∷◌, nat_abs, IfOk};
-ghost use Rattle.trunc_series.specs.Shown.{term_of, IsNear};
+ghost use Rattle.limits.specs.Limits.{highest_order, largest_exponent};
+ghost use Rattle.trunc_series.specs.Shown.{term_of, HasNearTerms};
 ghost use Rattle.series_bench.specs.Factor.{IsPart};
 
+use limits::HIGHEST_ORDER;
 use std::alloc::{AllocError, Global};
 use trunc_series::{Exp, Key, Series, bounds_carry_over};
 
@@ -11,13 +13,11 @@ use trunc_series::{Exp, Key, Series, bounds_carry_over};
 const TERMS: u32 = 2000;
 
 /// The order of the factors.
-const ORDER: u32 = 24;
-
 /// The powers i and j of the monomial t1^i·t2^j at a place below 325: each of degree at most 24 comes once.
 fn powers(place: u32) -> (u8, u8)
     requires { place < 325 }
-    ensures first { result.0 ≤ 24 }
-    ensures second { result.1 ≤ 24 }
+    ensures first { result.0 ≤ highest_order }
+    ensures second { result.1 ≤ highest_order }
 {
     let x = (place % 25) as u8;
     let y = (place / 25) as u8;
@@ -41,10 +41,10 @@ fn multiple(spread: i32, round: i32) -> i32
 fn exponent(spread: i32, round: i32, i: i32, j: i32) -> Exp
     requires spread { nat_abs spread ≤ 100 }
     requires round { nat_abs round ≤ 6 }
-    requires i { nat_abs i ≤ 24 }
-    requires j { nat_abs j ≤ 24 }
-    ensures a { nat_abs result.a ≤ 2 ^ 16 }
-    ensures b { nat_abs result.b ≤ 2 ^ 16 }
+    requires i { nat_abs i ≤ highest_order }
+    requires j { nat_abs j ≤ highest_order }
+    ensures a { nat_abs result.a ≤ largest_exponent }
+    ensures b { nat_abs result.b ≤ largest_exponent }
 {
     Exp {
         a: multiple(spread, round) + i - 2 * j,
@@ -55,8 +55,8 @@ fn exponent(spread: i32, round: i32, i: i32, j: i32) -> Exp
 /// The coefficient of a term; it is odd.
 fn coefficient(round: i32, i: i32, j: i32) -> i32
     requires round { nat_abs round ≤ 6 }
-    requires i { nat_abs i ≤ 24 }
-    requires j { nat_abs j ≤ 24 }
+    requires i { nat_abs i ≤ highest_order }
+    requires j { nat_abs j ≤ highest_order }
     ensures { nat_abs result ≤ 2 ^ 20 }
 {
     2 * (i + round - j) + 1
@@ -67,7 +67,7 @@ fn term(spread: i32, place: u32) -> (Key, i128)
     requires spread { nat_abs spread ≤ 100 }
     requires place { place < 2000 }
     ensures small { nat_abs result.1 ≤ 2 ^ 20 }
-    ensures near { IsNear (term_of result ∷ []) }
+    ensures near { HasNearTerms (term_of result ∷ []) }
 {
     let round = (place / 325) as i32;
     let (i, j) = powers(place % 325);
@@ -86,11 +86,11 @@ fn sum(alloc: Global, spread: i32, from: u32, to: u32) -> Result<Series, AllocEr
 {
     bounds_carry_over();
     if to <= from {
-        return Series::zero(alloc, ORDER);
+        return Series::zero(alloc, HIGHEST_ORDER);
     }
     if to - from == 1 {
         let (key, c) = term(spread, from);
-        return Series::monomial(alloc, ORDER, key, c);
+        return Series::monomial(alloc, HIGHEST_ORDER, key, c);
     }
     let middle = from + (to - from) / 2;
     let left = sum(alloc, spread, from, middle)?;

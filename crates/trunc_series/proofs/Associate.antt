@@ -1,5 +1,5 @@
 -- Products without terms of high degree are associative, and powers add up.
-use Rattle.std.proofs.Common.{◌≡◌, ℕ, ◌+◌, ◌<◌, refl, sym, ap, ◌∙◌, Bool, true, false, cond, [], ◌∷◌, arith, add_assoc}
+use Rattle.std.proofs.Common.{◌≡◌, ℕ, ◌<◌, refl, sym, ap, ◌∙◌, Bool, true, false, cond, [], ◌∷◌, arith, add_assoc}
 use Rattle.std.specs.Prelude.{ℤ, pos, ◌+ℤ◌, ◌*ℤ◌, nat_le}
 use mathlib.Core.Path.{fun_ext}
 use lib.IntN.{+ℤ_assoc}
@@ -7,6 +7,7 @@ use Rattle.sum_algebra.proofs.Ring.{ring, nought, unit as one_of}
 use Rattle.sum_algebra.proofs.IntegerRing.{ints_ring, ◌:+◌, ◌:*◌, X, Y, Z, W}
 use Rattle.scattering.specs.Series.{Key, Term, Sum, Same, degree, key_eq, key_mul, term_mul, coef, cut, mul}
 use Rattle.scattering.proofs.Pairing.{pairing, pairing-append}
+use Rattle.scattering.proofs.ShiftedSums.{degree-mul}
 use Rattle.trunc_series.proofs.Rows.{row_sum}
 
 -- a reading without keys of degree above n
@@ -50,9 +51,6 @@ key_mul-assoc k l m = λ i. record {
   powers = record { t1 = add_assoc k.powers.t1 l.powers.t1 m.powers.t1 i; t2 = add_assoc k.powers.t2 l.powers.t2 m.powers.t2 i; t3 = add_assoc k.powers.t3 l.powers.t3 m.powers.t3 i; t4 = add_assoc k.powers.t4 l.powers.t4 m.powers.t4 i; t5 = add_assoc k.powers.t5 l.powers.t5 m.powers.t5 i; t6 = add_assoc k.powers.t6 l.powers.t6 m.powers.t6 i; t7 = add_assoc k.powers.t7 l.powers.t7 m.powers.t7 i; t8 = add_assoc k.powers.t8 l.powers.t8 m.powers.t8 i };
   exp = record { a = +ℤ_assoc k.exp.a l.exp.a m.exp.a i; b = +ℤ_assoc k.exp.b l.exp.b m.exp.b i };
 }
-
-pub degree-mul : (k l : Key) → degree (key_mul k l) ≡ degree k + degree l
-degree-mul k l = omega arith
 
 module _ (n : ℕ) (φ : Key → ℤ) (x y : Key) where
   above : (w : Key) → n < degree w → capped n φ w ≡ pos 0

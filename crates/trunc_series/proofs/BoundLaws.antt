@@ -6,13 +6,13 @@ use Rattle.std.proofs.Math.Nat.{mul-le-mul_left}
 use Rattle.scattering.specs.Collections.{Every}
 use Rattle.scattering.specs.Series.{Key, Term, Sum, degree, key_mul, term_mul, coef, cut, mul, mass_to}
 use Rattle.scattering.proofs.DistinctKeys.{rising-own}
-use Rattle.trunc_series.specs.Shown.{IsNear}
+use Rattle.scattering.proofs.Lists.{Every-append}
+use Rattle.scattering.proofs.ShiftedSums.{degree-mul}
+use Rattle.trunc_series.specs.Shown.{HasNearTerms}
 use Rattle.trunc_series.specs.Laws.{SeriesHasLeastMass, SeriesStaysNear, SumsStayNear, MassesMultiply}
-use Rattle.trunc_series.proofs.Coefficients.{Every-append}
 use Rattle.trunc_series.proofs.Mass.{mass-series}
 use Rattle.trunc_series.proofs.Products.{mass-append, mass-absolute}
 use Rattle.trunc_series.proofs.PowerLaws.{key-from}
-use Rattle.trunc_series.proofs.Associate.{degree-mul}
 use Rattle.trunc_series.proofs.Rows.{row_sum}
 
 -- ---- of a series by its sum
@@ -26,7 +26,7 @@ Near k = (nat_abs k.exp.a ≤ 2 ^ 16) × (nat_abs k.exp.b ≤ 2 ^ 16)
 pub stays-near : SeriesStaysNear
 stays-near s n f h near = go s.terms (rising-own s.terms h.series.rises) h.series.nonzero
   where
-    go : (g : Sum) → Every (λ t. coef s.terms t.0 ≡ t.1) g → Every (λ t. t.1 ≢ pos 0) g → IsNear g
+    go : (g : Sum) → Every (λ t. coef s.terms t.0 ≡ t.1) g → Every (λ t. t.1 ≢ pos 0) g → HasNearTerms g
     go [] o z = tt
     go (t ∷ g) o z = (key-from Near f t.0 near (λ e. z.0 (sym o.0 ∙ h.same t.0 ∙ e)), go g o.1 z.1)
 

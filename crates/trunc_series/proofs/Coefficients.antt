@@ -1,5 +1,5 @@
 -- The coefficients of a list of terms.
-use Rattle.std.proofs.Common.{◌≡◌, ◌≢◌, ℕ, ◌+◌, ◌≤◌, refl, sym, subst, Bool, true, false, cond, List, [], ◌∷◌, ◌++◌, arith}
+use Rattle.std.proofs.Common.{◌≡◌, ◌≢◌, ℕ, ◌+◌, ◌≤◌, refl, sym, subst, Bool, true, false, cond, [], ◌∷◌, ◌++◌, arith}
 use Rattle.std.specs.Prelude.{ℤ, pos, ◌+ℤ◌, nat_abs, IsTrue}
 use Rattle.std.proofs.lemmas.Int.{ints}
 use Rattle.std.proofs.lemmas.Bool.{le-leb}
@@ -8,30 +8,18 @@ use Rattle.scattering.specs.Series.{Key, Term, Sum, degree, key_eq, key_before, 
 use Rattle.scattering.proofs.Keys.{key_eq-same, key_eq-refl}
 use Rattle.trunc_series.specs.declared.arithmetic.Arithmetic.{Arithmetic}
 use Rattle.trunc_series.specs.Arithmetic.{IsKeepable}
-use Rattle.scattering.proofs.KeyOrder.{key_before-irrefl}
+use Rattle.scattering.proofs.Lists.{pairs-implies}
+use Rattle.scattering.proofs.Pairing.{coef-append, skip-zero}
+use Rattle.scattering.proofs.Coefficients.{coef-none}
+use Rattle.scattering.proofs.StrictOrders.{apart}
 use Rattle.trunc_series.proofs.Kept.{keepable-zero, keepable-add}
 
 -- ---- facts about each element
-
-pub Every-weaker : {A : Type 0} (P Q : A → Type 0) (xs : List A) → ((x : A) → P x → Q x) → Every P xs → Every Q xs
-Every-weaker P Q [] i h = tt
-Every-weaker P Q (x ∷ xs) i h = (i x h.0, Every-weaker P Q xs i h.1)
-
-pub Every-append : {A : Type 0} (P : A → Type 0) (xs ys : List A) → Every P xs → Every P ys → Every P (xs ++ ys)
-Every-append P [] ys h k = k
-Every-append P (x ∷ xs) ys h k = (h.0, Every-append P xs ys h.1 k)
-
-pub skip-zero : (c : ℤ) → pos 0 +ℤ c ≡ c
-skip-zero c = omega (arith, ints)
 
 pub add-zero : (c : ℤ) → c +ℤ pos 0 ≡ c
 add-zero c = omega (arith, ints)
 
 -- ---- coefficients
-
-pub coef-append : (f g : Sum) (k : Key) → coef (f ++ g) k ≡ coef f k +ℤ coef g k
-coef-append [] g k = sym (skip-zero (coef g k))
-coef-append (t ∷ f) g k = rw (coef-append f g k) (omega (arith, ints))
 
 pub keepable-at : (rule : Arithmetic) (k : Key) (t : Term) → IsKeepable rule t.1 → IsKeepable rule (coef_at k t)
 keepable-at rule k t h = go (key_eq t.0 k)
@@ -44,32 +32,17 @@ pub keepable-coef : (rule : Arithmetic) (f : Sum) (k : Key) → Every (λ t. IsK
 keepable-coef rule [] k h = keepable-zero rule
 keepable-coef rule (t ∷ f) k h = keepable-add rule (coef_at k t) (coef f k) (keepable-at rule k t h.0) (keepable-coef rule f k h.1)
 
-pub coef-none : (f : Sum) (k : Key) → Every (λ t. key_eq t.0 k ≡ false) f → coef f k ≡ pos 0
-coef-none [] k h = refl
-coef-none (t ∷ f) k h = rw (h.0, coef-none f k h.1) refl
-
-pub apart : (k l : Key) → key_before k l ≡ true → key_eq l k ≡ false
-apart k l h = go (key_eq l k) refl
-  where
-    go : (b : Bool) → key_eq l k ≡ b → b ≡ false
-    go false e = refl
-    go true e = let c : key_before k k ≡ true = subst (λ (w : Key). key_before k w ≡ true) (key_eq-same l k e) h in absurd (let d = key_before-irrefl k in cc)
-
 -- ---- where no key stands twice
 
 -- no two keys are one
 abbrev pub Apart : Sum → Type 0
 Apart f = EveryPair (λ t u. key_eq u.0 t.0 ≡ false) f
 
-EveryPair-weaker : {A : Type 0} (R S : A → A → Type 0) (xs : List A) → ((x y : A) → R x y → S x y) → EveryPair R xs → EveryPair S xs
-EveryPair-weaker R S [] i h = tt
-EveryPair-weaker R S (x ∷ xs) i h = (Every-weaker (R x) (S x) xs (i x) h.0, EveryPair-weaker R S xs i h.1)
-
 pub apart-rising : (f : Sum) → EveryPair (λ t u. IsTrue (key_before t.0 u.0)) f → Apart f
-apart-rising f r = EveryPair-weaker (λ (t u : Term). IsTrue (key_before t.0 u.0)) (λ t u. key_eq u.0 t.0 ≡ false) f (λ t u. apart t.0 u.0) r
+apart-rising f r = pairs-implies (λ (t u : Term). IsTrue (key_before t.0 u.0)) (λ t u. key_eq u.0 t.0 ≡ false) f (λ t u. apart t.0 u.0) r
 
 pub apart-distinct : (f : Sum) → EveryPair (λ t u. t.0 ≢ u.0) f → Apart f
-apart-distinct f d = EveryPair-weaker (λ (t u : Term). t.0 ≢ u.0) (λ t u. key_eq u.0 t.0 ≡ false) f (λ t u n. go t u n (key_eq u.0 t.0) refl) d
+apart-distinct f d = pairs-implies (λ (t u : Term). t.0 ≢ u.0) (λ t u. key_eq u.0 t.0 ≡ false) f (λ t u n. go t u n (key_eq u.0 t.0) refl) d
   where
     go : (t u : Term) → t.0 ≢ u.0 → (b : Bool) → key_eq u.0 t.0 ≡ b → b ≡ false
     go t u n false e = refl
@@ -114,11 +87,3 @@ abs-coef n (t ∷ f) k l = rw (le-leb (degree t.0) n l.0) (go (key_eq t.0 k) (ab
 -- the sum of two
 pub abs-sum : (n : ℕ) (f g : Sum) (k : Key) → Every (λ t. degree t.0 ≤ n) f → Every (λ t. degree t.0 ≤ n) g → nat_abs (coef (f ++ g) k) ≤ mass_to n f + mass_to n g
 abs-sum n f g k l m = rw (coef-append f g k) (omega (arith, abs-add (coef f k) (coef g k), abs-coef n f k l, abs-coef n g k m))
-
-pub Every-left : {A : Type 0} (P : A → Type 0) (xs ys : List A) → Every P (xs ++ ys) → Every P xs
-Every-left P [] ys h = tt
-Every-left P (x ∷ xs) ys h = (h.0, Every-left P xs ys h.1)
-
-pub Every-right : {A : Type 0} (P : A → Type 0) (xs ys : List A) → Every P (xs ++ ys) → Every P ys
-Every-right P [] ys h = h
-Every-right P (x ∷ xs) ys h = Every-right P xs ys h.1

@@ -7,12 +7,12 @@ use Rattle.sum_algebra.proofs.Ring.{ring, nought, unit as one_of}
 use Rattle.sum_algebra.proofs.IntegerRing.{ints_ring, ◌:+◌, ◌:*◌, X, Y, Z}
 use Rattle.scattering.specs.Series.{Key, Term, Sum, degree, key_eq, key_mul, term_mul, coef, coef_at, cut, mul}
 use Rattle.scattering.proofs.Keys.{key_eq-refl}
-use Rattle.scattering.proofs.Pairing.{pairing, pairing-split, without, coef-without, length-without}
+use Rattle.scattering.proofs.Pairing.{pairing, pairing-split, without, coef-without, length-without, coef-append, skip-zero}
 use Rattle.trunc_series.specs.declared.arithmetic.Arithmetic.{Arithmetic}
 use Rattle.trunc_series.specs.Arithmetic.{kept, IsKeepable}
-use Rattle.trunc_series.specs.Reduced.{IsReduced}
+use Rattle.trunc_series.specs.Reduced.{IsKeptAs}
 use Rattle.trunc_series.proofs.Kept.{keepable-zero, keepable-one, keepable-add, keepable-mul, kept-same_left, kept-same_right, kept-same_mul}
-use Rattle.trunc_series.proofs.Coefficients.{coef-append, skip-zero, add-zero, keepable-coef}
+use Rattle.trunc_series.proofs.Coefficients.{add-zero, keepable-coef}
 use Rattle.trunc_series.proofs.Merging.{Keepable, whole}
 use Rattle.trunc_series.proofs.Rows.{row_sum, Every-filter, sum-keepable, mul-keepable}
 
@@ -134,7 +134,7 @@ module _ (rule : Arithmetic) (n : ℕ) where
       ∙ pairing-kept rule (weight n g k) (λ x. keepable-weight g k x hg) (length r + length f) r f (omega arith) hr hf s
       ∙ ap (kept rule) (sym (mul-weight n f g k))
 
-  pub product-reduced : (p r s f g : Sum) → IsReduced rule n r f → IsReduced rule n s g → IsReduced rule n p (mul n r s) → IsReduced rule n p (mul n f g)
+  pub product-reduced : (p r s f g : Sum) → IsKeptAs rule n r f → IsKeptAs rule n s g → IsKeptAs rule n p (mul n r s) → IsKeptAs rule n p (mul n f g)
   product-reduced p r s f g hr hs hp = record {
     series = hp.series;
     keeps = hp.keeps;

@@ -3,16 +3,16 @@ use Rattle.std.proofs.Common.{◌≡◌, ℕ, ◌+◌, ◌-◌, ◌<◌, ◌≤�
 use Rattle.std.specs.Prelude.{ℤ, ◌*ℤ◌, filter, nat_le}
 use Rattle.std.proofs.lemmas.Bool.{le-leb}
 use Rattle.std.proofs.lemmas.List.{drop_all, append-nil}
-use Rattle.scattering.specs.Collections.{Every, EveryPair}
+use Rattle.scattering.specs.Collections.{EveryPair}
 use Rattle.scattering.specs.Series.{Term, Sum, degree, key_mul, cut, mul}
+use Rattle.scattering.proofs.Lists.{pairs-filter, Every-implies, Every-left, Every-right}
+use Rattle.scattering.proofs.Coefficients.{low-cut}
 use Rattle.trunc_series.specs.declared.key.Key.{Key as CodeKey}
 use Rattle.trunc_series.specs.declared.arithmetic.Arithmetic.{Arithmetic}
 use Rattle.trunc_series.specs.Shown.{key_of, term_of, sum_of}
 use Rattle.trunc_series.specs.Arithmetic.{kept, IsKeepable}
-use Rattle.trunc_series.specs.Reduced.{unless_zero, IsReduced, IsFactor, PairsFit, pairs}
-use Rattle.trunc_series.proofs.Coefficients.{Every-weaker, Every-left, Every-right}
+use Rattle.trunc_series.specs.Reduced.{unless_zero, IsKeptAs, IsFactor, PairsFit, pairs}
 use Rattle.trunc_series.proofs.Terms.{at, sum_of-drop, sum_of-unless_zero}
-use Rattle.trunc_series.proofs.Exact.{low-cut}
 use Rattle.trunc_series.proofs.Rows.{row_of, row_sum, row-reduced, row-fitting, fitting, fitting-low, level, level-degree, Every-filter}
 
 -- ---- parts
@@ -25,22 +25,6 @@ pair-right : {A : Type 0} (R : A → A → Type 0) (xs ys : List A) → EveryPai
 pair-right R [] ys h = h
 pair-right R (x ∷ xs) ys h = pair-right R xs ys h.1
 
-pub pair-filter : {A : Type 0} (R : A → A → Type 0) (p : A → Bool) (xs : List A) → EveryPair R xs → EveryPair R (filter p xs)
-pair-filter R p [] h = tt
-pair-filter {A} R p (x ∷ xs) h = go (p x) (pair-filter R p xs h.1)
-  where
-    every : (ys : List A) → Every (R x) ys → Every (R x) (filter p ys)
-    every [] e = tt
-    every (y ∷ ys) e = one (p y) (every ys e.1)
-      where
-        one : (b : Bool) → Every (R x) (filter p ys) → Every (R x) (cond b (y ∷ filter p ys) (filter p ys))
-        one true i = (e.0, i)
-        one false i = i
-
-    go : (b : Bool) → EveryPair R (filter p xs) → EveryPair R (cond b (x ∷ filter p xs) (filter p xs))
-    go true i = (every xs h.0, i)
-    go false i = i
-
 module _ (rule : Arithmetic) where
   pub factor-left : (f g : Sum) → IsFactor rule (f ++ g) → IsFactor rule f
   factor-left f g h = record { rises = pair-left _ f g h.rises; keepable = Every-left _ f g h.keepable; near = Every-left _ f g h.near }
@@ -49,9 +33,9 @@ module _ (rule : Arithmetic) where
   factor-right f g h = record { rises = pair-right _ f g h.rises; keepable = Every-right _ f g h.keepable; near = Every-right _ f g h.near }
 
   pub factor-filter : (p : Term → Bool) (f : Sum) → IsFactor rule f → IsFactor rule (filter p f)
-  factor-filter p f h = record { rises = pair-filter _ p f h.rises; keepable = Every-filter _ p f h.keepable; near = Every-filter _ p f h.near }
+  factor-filter p f h = record { rises = pairs-filter _ p f h.rises; keepable = Every-filter _ p f h.keepable; near = Every-filter _ p f h.near }
 
-  pub reduced-nil : (n : ℕ) → IsReduced rule n [] []
+  pub reduced-nil : (n : ℕ) → IsKeptAs rule n [] []
   reduced-nil n = record { series = record { rises = tt; nonzero = tt; low = tt }; keeps = tt; keepable = tt; same = λ k. refl }
 
   -- ---- a row
@@ -83,10 +67,10 @@ module _ (rule : Arithmetic) where
       → sum_of out ++ row_of rule t (fitting n (degree t.0) (sum_of (drop i b))) ≡ row_of rule t (fitting n (degree t.0) (sum_of b)) → sum_of out ≡ row_of rule t (fitting n (degree t.0) (sum_of b))
   low-done n t out b i h e = sym (append-nil (sum_of out)) ∙ ap (λ r. sum_of out ++ row_of rule t (fitting n (degree t.0) (sum_of r))) (sym (drop_all i b h)) ∙ e
 
-  pub low-reduced : (n : ℕ) (t : Term) (g : Sum) → IsKeepable rule t.1 → IsFactor rule g → IsReduced rule n (row_of rule t (fitting n (degree t.0) g)) (mul n (t ∷ []) g)
+  pub low-reduced : (n : ℕ) (t : Term) (g : Sum) → IsKeepable rule t.1 → IsFactor rule g → IsKeptAs rule n (row_of rule t (fitting n (degree t.0) g)) (mul n (t ∷ []) g)
   low-reduced n t g h f =
       let w = factor-filter (λ u. nat_le (degree t.0 + degree u.0) n) g f in
-      subst (λ (s : Sum). IsReduced rule n (row_of rule t (fitting n (degree t.0) g)) s) (sym (append-nil (cut n (row_sum t g)) ∙ row-fitting n t g))
+      subst (λ (s : Sum). IsKeptAs rule n (row_of rule t (fitting n (degree t.0) g)) s) (sym (append-nil (cut n (row_sum t g)) ∙ row-fitting n t g))
       (row-reduced rule t n (fitting n (degree t.0) g) h w.keepable w.rises (fitting-low n (degree t.0) g))
 
 -- ---- all pairs
@@ -110,5 +94,5 @@ sum_of-where p (t ∷ a) = go (p (term_of t)) (sum_of-where p a)
 -- the degrees of a level and of what fits to it
 pub pairs-fit : (m n d : ℕ) (f g : Sum) → d ≤ n → n ≤ m → PairsFit m (level d f) (cut (n - d) g)
 pairs-fit m n d f g h k =
-    Every-weaker (λ (t : Term). degree t.0 ≡ d) _ (level d f)
-    (λ t e. Every-weaker (λ (u : Term). degree u.0 ≤ n - d) (λ u. degree t.0 + degree u.0 ≤ m) (cut (n - d) g) (λ u l. omega (arith, e, l)) (low-cut (n - d) g)) (level-degree d f)
+    Every-implies (λ (t : Term). degree t.0 ≡ d) _ (level d f)
+    (λ t e. Every-implies (λ (u : Term). degree u.0 ≤ n - d) (λ u. degree t.0 + degree u.0 ≤ m) (cut (n - d) g) (λ u l. omega (arith, e, l)) (low-cut (n - d) g)) (level-degree d f)

@@ -20,3 +20,4 @@ pub mod RingLaws
 pub mod InverseLaws
 pub mod BoundLaws
 pub mod MajorantLaws
+pub mod PowerTests

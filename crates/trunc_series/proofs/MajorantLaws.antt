@@ -6,14 +6,14 @@ use Rattle.std.proofs.lemmas.Int.{ints, clamps}
 use Rattle.scattering.specs.Collections.{Every}
 use Rattle.scattering.specs.Series.{Key, Sum, degree, key_eq, coef, mul, mass_to, absolute}
 use Rattle.scattering.proofs.Keys.{key_eq-same, key_eq-refl}
-use Rattle.scattering.proofs.Pairing.{without, coef-without}
+use Rattle.scattering.proofs.Pairing.{without, coef-without, skip-zero}
 use Rattle.trunc_series.specs.declared.arithmetic.Arithmetic.TheVariants.{Saturating}
 use Rattle.trunc_series.specs.Shown.{Seen}
 use Rattle.trunc_series.specs.Arithmetic.{kept, IsKeepable, limit}
 use Rattle.trunc_series.specs.Capped.{IsMajorantOf}
-use Rattle.trunc_series.specs.Reduced.{IsReduced}
+use Rattle.trunc_series.specs.Reduced.{IsKeptAs}
 use Rattle.trunc_series.specs.Laws.{MajorantTestsProduct}
-use Rattle.trunc_series.proofs.Coefficients.{Apart, apart-rising, coef-none_at, has-coef, keepable-coef, skip-zero, add-zero, abs-coef}
+use Rattle.trunc_series.proofs.Coefficients.{Apart, apart-rising, coef-none_at, has-coef, keepable-coef, add-zero, abs-coef}
 use Rattle.std.proofs.Math.Decide.{dec_le}
 use Rattle.trunc_series.proofs.Mass.{mass-series}
 use Rattle.trunc_series.proofs.Congruence.{product-reduced}
@@ -24,7 +24,7 @@ use Rattle.trunc_series.proofs.Rows.{Every-filter, mul-keepable}
 abbrev Fixed : ℤ → Type 0
 Fixed c = (int_min c limit ≡ c) × (pos 0 ≤ℤ c)
 
-reduced-of : (n : ℕ) (m : Seen) (f : Sum) → IsMajorantOf m n f → Every (λ t. IsKeepable Saturating t.1) f → IsReduced Saturating n m.terms f
+pub reduced-of : (n : ℕ) (m : Seen) (f : Sum) → IsMajorantOf m n f → Every (λ t. IsKeepable Saturating t.1) f → IsKeptAs Saturating n m.terms f
 reduced-of n m f h p = record {
   series = h.series;
   keeps = has-coef Fixed m.terms (refl, omega (arith, ints)) (apart-rising m.terms h.series.rises) (λ k. rw (h.capped k) (let c : pos 0 ≤ℤ coef f k = keepable-coef Saturating f k p in fixed (coef f k) c));
@@ -38,7 +38,7 @@ reduced-of n m f h p = record {
     twice : (c : ℤ) → int_min (int_min c limit) limit ≡ int_min c limit
     twice c = omega (arith, ints, clamps)
 
-absolute-positive : (f : Sum) → Every (λ t. IsKeepable Saturating t.1) (absolute f)
+pub absolute-positive : (f : Sum) → Every (λ t. IsKeepable Saturating t.1) (absolute f)
 absolute-positive [] = tt
 absolute-positive (t ∷ f) = (omega (arith, ints), absolute-positive f)
 
@@ -126,7 +126,7 @@ majorant-tests n f g a b p ha hb hp m =
 pub majorant-mass : (n : ℕ) (m : Seen) (f : Sum) → IsMajorantOf m n f → Every (λ t. IsKeepable Saturating t.1) f → Every (λ t. degree t.0 ≤ n) f → min (mass_to n m.terms) (2 ^ 126 + 1) ≡ min (mass_to n f) (2 ^ 126 + 1)
 majorant-mass n m f h p l = go (dec_le (mass_to n m.terms) (2 ^ 126)) (dec_le (mass_to n f) (2 ^ 126))
   where
-    r : IsReduced Saturating n m.terms f
+    r : IsKeptAs Saturating n m.terms f
     r = reduced-of n m f h p
 
     keepable : (g : Sum) → Every (λ t. (kept Saturating t.1 ≡ t.1) × IsKeepable Saturating t.1) g → Every (λ t. IsKeepable Saturating t.1) g

@@ -6,14 +6,15 @@ use Rattle.std.proofs.lemmas.Bool.{le-leb}
 use Rattle.std.proofs.lemmas.Int.{ints, clamps}
 use Rattle.scattering.specs.Collections.{Every, EveryPair}
 use Rattle.scattering.specs.Series.{Key, Term, Sum, degree, key_eq, key_before, coef, coef_at, absolute, mass_to}
+use Rattle.scattering.proofs.Lists.{Every-implies}
 use Rattle.trunc_series.specs.declared.key.Key.{Key as CodeKey}
 use Rattle.trunc_series.specs.declared.arithmetic.Arithmetic.TheVariants.{Saturating}
-use Rattle.trunc_series.specs.Shown.{key_of, sum_of, IsValid, IsNear}
+use Rattle.trunc_series.specs.Shown.{key_of, sum_of, IsValid, HasNearTerms}
 use Rattle.trunc_series.specs.Arithmetic.{kept, IsKeepable, limit}
 use Rattle.trunc_series.specs.Capped.{IsMajorant}
-use Rattle.trunc_series.specs.Reduced.{IsReduced, IsFactor, IsTame, absolute_sum}
+use Rattle.trunc_series.specs.Reduced.{IsKeptAs, IsFactor, GrowsSlowly, absolute_sum}
 use Rattle.trunc_series.proofs.Kept.{kept-kept, kept-same_left, kept-same_right, keepable-kept}
-use Rattle.trunc_series.proofs.Coefficients.{Every-weaker, apart-rising, coef-has, keepable-at, keepable-coef}
+use Rattle.trunc_series.proofs.Coefficients.{apart-rising, coef-has, keepable-at, keepable-coef}
 use Rattle.trunc_series.proofs.Terms.{at, Every-at, sum_of-drop, sum_of-push}
 use Rattle.trunc_series.proofs.Merging.{Keepable}
 use Rattle.trunc_series.proofs.Products.{near-keys}
@@ -21,34 +22,38 @@ use Rattle.trunc_series.proofs.Products.{near-keys}
 pub min-fixed : (c : ℤ) → c ≤ℤ limit → int_min c limit ≡ c
 min-fixed c h = omega (arith, ints, clamps)
 
-min-below : (c : ℤ) → int_min c limit ≡ c → c ≤ℤ limit
+pub min-below : (c : ℤ) → int_min c limit ≡ c → c ≤ℤ limit
 min-below c e = omega (arith, ints, clamps)
 
 pub majorant-keepable : (n : ℕ) (f : Sum) → IsMajorant n f → Keepable Saturating f
-majorant-keepable n f m = Every-weaker (λ (t : Term). (pos 0 ≤ℤ t.1) × (t.1 ≤ℤ limit)) (λ t. IsKeepable Saturating t.1) f (λ t i. i.0) m.range
+majorant-keepable n f m = Every-implies (λ (t : Term). (pos 0 ≤ℤ t.1) × (t.1 ≤ℤ limit)) (λ t. IsKeepable Saturating t.1) f (λ t i. i.0) m.range
 
-pub own-majorant : (n : ℕ) (f : Sum) → IsMajorant n f → IsReduced Saturating n f f
+pub own-majorant : (n : ℕ) (f : Sum) → IsMajorant n f → IsKeptAs Saturating n f f
 own-majorant n f m = record {
   series = m.series;
-  keeps = Every-weaker (λ (t : Term). (pos 0 ≤ℤ t.1) × (t.1 ≤ℤ limit)) (λ t. (kept Saturating t.1 ≡ t.1) × IsKeepable Saturating t.1) f (λ t i. (min-fixed t.1 i.1, i.0)) m.range;
+  keeps = Every-implies (λ (t : Term). (pos 0 ≤ℤ t.1) × (t.1 ≤ℤ limit)) (λ t. (kept Saturating t.1 ≡ t.1) × IsKeepable Saturating t.1) f (λ t i. (min-fixed t.1 i.1, i.0)) m.range;
   keepable = majorant-keepable n f m;
   same = λ k. refl;
 }
 
-pub majorant-factor : (n : ℕ) (f : Sum) → IsMajorant n f → IsNear f → IsFactor Saturating f
+pub majorant-factor : (n : ℕ) (f : Sum) → IsMajorant n f → HasNearTerms f → IsFactor Saturating f
 majorant-factor n f m h = record { rises = m.series.rises; keepable = majorant-keepable n f m; near = near-keys f h }
 
 abbrev pub MadeMajorant : ℕ → Sum → Sum → Type 0
 MadeMajorant n r f = IsMajorant n r × ((k : Key) → coef r k ≡ int_min (coef f k) limit)
 
-pub made-majorant : (n : ℕ) (r f : Sum) → n ≤ 24 → IsReduced Saturating n r f → MadeMajorant n r f
+pub reduced-capped : (n : ℕ) (r f : Sum) → IsKeptAs Saturating n r f → (k : Key) → coef r k ≡ int_min (coef f k) limit
+reduced-capped n r f h k =
+    sym (coef-has (λ c. int_min c limit ≡ c) r refl (apart-rising r h.series.rises) (Every-implies (λ (t : Term). (kept Saturating t.1 ≡ t.1) × IsKeepable Saturating t.1) (λ t. int_min t.1 limit ≡ t.1) r (λ t i. i.0) h.keeps) k) ∙ h.same k
+
+pub made-majorant : (n : ℕ) (r f : Sum) → n ≤ 24 → IsKeptAs Saturating n r f → MadeMajorant n r f
 made-majorant n r f o h = (
   record {
     order = o;
     series = h.series;
-    range = Every-weaker (λ (t : Term). (kept Saturating t.1 ≡ t.1) × IsKeepable Saturating t.1) (λ t. (pos 0 ≤ℤ t.1) × (t.1 ≤ℤ limit)) r (λ t i. (i.1, min-below t.1 i.0)) h.keeps;
+    range = Every-implies (λ (t : Term). (kept Saturating t.1 ≡ t.1) × IsKeepable Saturating t.1) (λ t. (pos 0 ≤ℤ t.1) × (t.1 ≤ℤ limit)) r (λ t i. (i.1, min-below t.1 i.0)) h.keeps;
   },
-  λ k. sym (coef-has (λ c. int_min c limit ≡ c) r refl (apart-rising r h.series.rises) (Every-weaker (λ (t : Term). (kept Saturating t.1 ≡ t.1) × IsKeepable Saturating t.1) (λ t. int_min t.1 limit ≡ t.1) r (λ t i. i.0) h.keeps) k) ∙ h.same k,
+  reduced-capped n r f h,
 )
 
 -- ---- absolute values
@@ -61,10 +66,10 @@ absolute-rises : (f : Sum) → EveryPair (λ t u. IsTrue (key_before t.0 u.0)) f
 absolute-rises [] h = tt
 absolute-rises (t ∷ f) h = (absolute-every (λ u. IsTrue (key_before t.0 u.0)) (λ u. IsTrue (key_before t.0 u.0)) f (λ u b. b) h.0, absolute-rises f h.1)
 
-pub absolute-tame : (f : Sum) → Every (λ t. IsTame t.0) f → Every (λ t. IsTame t.0) (absolute_sum f)
-absolute-tame f h = absolute-every (λ t. IsTame t.0) (λ t. IsTame t.0) f (λ t i. i) h
+pub absolute-tame : (f : Sum) → Every (λ t. GrowsSlowly t.0) f → Every (λ t. GrowsSlowly t.0) (absolute_sum f)
+absolute-tame f h = absolute-every (λ t. GrowsSlowly t.0) (λ t. GrowsSlowly t.0) f (λ t i. i) h
 
-absolute-whole : (f : Sum) → Keepable Saturating (absolute f)
+pub absolute-whole : (f : Sum) → Keepable Saturating (absolute f)
 absolute-whole [] = tt
 absolute-whole (t ∷ f) = (omega (arith, ints), absolute-whole f)
 
@@ -87,7 +92,7 @@ absolute-coef (t ∷ f) k =
 absolute-nonzero : (c : ℤ) → c ≢ pos 0 → kept Saturating (pos (nat_abs c)) ≢ pos 0
 absolute-nonzero c n e = n (let q : int_min (pos (nat_abs c)) limit ≡ pos 0 = e in omega (arith, ints, clamps))
 
-pub absolute-reduced : (n : ℕ) (f : Sum) → IsValid n f → IsReduced Saturating n (absolute_sum f) (absolute f)
+pub absolute-reduced : (n : ℕ) (f : Sum) → IsValid n f → IsKeptAs Saturating n (absolute_sum f) (absolute f)
 absolute-reduced n f v = record {
   series = record {
     rises = absolute-rises f v.series.rises;

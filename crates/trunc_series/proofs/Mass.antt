@@ -3,8 +3,8 @@ use Rattle.std.proofs.Common.{◌≡◌, ℕ, ◌+◌, ◌≤◌, refl, sym, sub
 use Rattle.std.specs.Prelude.{ℤ, pos, ◌+ℤ◌, nat_abs, nat_le}
 use Rattle.scattering.specs.Series.{Key, Term, Sum, IsSeries, Same, degree, key_eq, coef, mass_to}
 use Rattle.scattering.proofs.Keys.{key_eq-same, key_eq-refl}
-use Rattle.scattering.proofs.Pairing.{without, coef-without}
-use Rattle.trunc_series.proofs.Coefficients.{abs-add, Apart, apart-rising, skip-zero, add-zero, coef-none_at}
+use Rattle.scattering.proofs.Pairing.{without, coef-without, skip-zero}
+use Rattle.trunc_series.proofs.Coefficients.{abs-add, Apart, apart-rising, add-zero, coef-none_at}
 
 -- a term's part of the mass
 abbrev part : ℕ → Term → ℕ

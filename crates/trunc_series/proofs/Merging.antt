@@ -6,10 +6,12 @@ use Rattle.scattering.specs.Collections.{Every, EveryPair}
 use Rattle.scattering.specs.Series.{Key, Term, Sum, degree, int_eq, key_eq, key_before, coef, coef_at}
 use Rattle.trunc_series.specs.declared.arithmetic.Arithmetic.{Arithmetic}
 use Rattle.trunc_series.specs.Arithmetic.{kept, IsKeepable}
-use Rattle.trunc_series.specs.Reduced.{IsReduced}
+use Rattle.trunc_series.specs.Reduced.{IsKeptAs}
 use Rattle.scattering.proofs.KeyOrder.{key_before-same, key_before-trans}
+use Rattle.scattering.proofs.Lists.{Every-implies, Every-append}
+use Rattle.scattering.proofs.Pairing.{coef-append, skip-zero}
 use Rattle.trunc_series.proofs.Kept.{keepable-add, keepable-kept, kept-kept, kept-same_right, kept-same_left}
-use Rattle.trunc_series.proofs.Coefficients.{Every-weaker, Every-append, skip-zero, add-zero, coef-append, keepable-at, keepable-coef}
+use Rattle.trunc_series.proofs.Coefficients.{add-zero, keepable-at, keepable-coef}
 
 module _ (rule : Arithmetic) where
   abbrev pub like_sum : Term → Term → Term
@@ -124,7 +126,7 @@ module _ (rule : Arithmetic) where
   After k f = Every (λ u. IsTrue (key_before k u.0)) f
 
   after-more : (k l : Key) (f : Sum) → key_before k l ≡ true → After l f → After k f
-  after-more k l f h a = Every-weaker (λ (u : Term). IsTrue (key_before l u.0)) (λ (u : Term). IsTrue (key_before k u.0)) f (λ u b. key_before-trans k l u.0 h b) a
+  after-more k l f h a = Every-implies (λ (u : Term). IsTrue (key_before l u.0)) (λ (u : Term). IsTrue (key_before k u.0)) f (λ u b. key_before-trans k l u.0 h b) a
 
   onto-rises : (rest : Sum → Sum) (t : Term) (f g : Sum) → ((h : Sum) → Rises h → Rises (rest h)) → ((k : Key) (h : Sum) → After k f → After k h → After k (rest h)) → After t.0 f → Rises f → Rises g → Rises (onto rest t f g)
   onto-rises rest t f [] r a p hf hg = (p, hf)
@@ -142,9 +144,9 @@ module _ (rule : Arithmetic) where
 
   -- ---- all of it
   pub whole : (c : Sum) → Every (λ t. (kept rule t.1 ≡ t.1) × IsKeepable rule t.1) c → Keepable c
-  whole c e = Every-weaker (λ (t : Term). (kept rule t.1 ≡ t.1) × IsKeepable rule t.1) (λ t. IsKeepable rule t.1) c (λ t i. i.1) e
+  whole c e = Every-implies (λ (t : Term). (kept rule t.1 ≡ t.1) × IsKeepable rule t.1) (λ t. IsKeepable rule t.1) c (λ t i. i.1) e
 
-  pub merge-reduced : (n : ℕ) (a b f g : Sum) → IsReduced rule n a f → IsReduced rule n b g → IsReduced rule n (merge a b) (f ++ g)
+  pub merge-reduced : (n : ℕ) (a b f g : Sum) → IsKeptAs rule n a f → IsKeptAs rule n b g → IsKeptAs rule n (merge a b) (f ++ g)
   merge-reduced n a b f g h k = record {
     series = record {
       rises = merge-rises a b h.series.rises k.series.rises;

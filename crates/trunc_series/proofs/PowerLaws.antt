@@ -3,24 +3,25 @@ use Rattle.std.proofs.Common.{◌≡◌, ◌≢◌, ℕ, zero, suc, ◌+◌, ◌
 use Rattle.std.specs.Prelude.{ℤ, pos, ◌*ℤ◌, nat_le}
 use Rattle.std.proofs.lemmas.Int.{ints}
 use Rattle.std.proofs.lemmas.List.{append-nil}
-use Rattle.std.proofs.lemmas.Bool.{le-leb}
-use lib.IntN.{+ℤ_idl}
 use Rattle.scattering.specs.Collections.{Every}
 use Rattle.scattering.specs.Series.{Key, Term, Sum, Same, SameTo, degree, key_eq, key_mul, coef, cut, mul, pow, powers_to, one, unit, rest}
-use Rattle.scattering.proofs.Keys.{key_eq-same}
+use Rattle.scattering.proofs.Keys.{key_eq-same, unit-mul}
 use Rattle.scattering.proofs.DistinctKeys.{rising-own}
 use Rattle.scattering.proofs.Pairing.{pairing-same}
+use Rattle.scattering.proofs.Lists.{Every-append}
+use Rattle.scattering.proofs.Coefficients.{cut-low}
+use Rattle.scattering.proofs.ShiftedSums.{degree-mul}
 use Rattle.trunc_series.specs.declared.arithmetic.Arithmetic.{Arithmetic}
 use Rattle.trunc_series.specs.Arithmetic.{kept, IsKeepable}
-use Rattle.trunc_series.specs.Shown.{IsNear}
-use Rattle.trunc_series.specs.Reduced.{IsReduced, IsFactor, IsNearKey, IsTame}
+use Rattle.trunc_series.specs.Shown.{HasNearTerms}
+use Rattle.trunc_series.specs.Reduced.{IsKeptAs, IsFactor, IsNearKey, GrowsSlowly}
 use Rattle.trunc_series.proofs.Kept.{kept-zero, kept-one, keepable-one}
-use Rattle.trunc_series.proofs.Coefficients.{Every-append, abs-add}
+use Rattle.trunc_series.proofs.Coefficients.{abs-add}
 use Rattle.trunc_series.proofs.Merging.{whole}
 use Rattle.trunc_series.proofs.Rows.{row_sum, Every-filter, reduced-same, mul-keepable}
 use Rattle.trunc_series.proofs.Products.{low-mul}
 use Rattle.trunc_series.proofs.Congruence.{weight, mul-weight, mul-comm, product-reduced}
-use Rattle.trunc_series.proofs.Associate.{degree-mul, mul-assoc}
+use Rattle.trunc_series.proofs.Associate.{mul-assoc}
 
 -- ---- factors with the same coefficients
 
@@ -46,22 +47,12 @@ mul-same_right n f g g' s k = mul-comm n f g k ∙ mul-same_left n g g' f s k �
 
 -- ---- 1
 
-unit-mul : (k : Key) → key_mul unit k ≡ k
-unit-mul k = λ i. record {
-  powers = record { t1 = zero-add k.powers.t1 i; t2 = zero-add k.powers.t2 i; t3 = zero-add k.powers.t3 i; t4 = zero-add k.powers.t4 i; t5 = zero-add k.powers.t5 i; t6 = zero-add k.powers.t6 i; t7 = zero-add k.powers.t7 i; t8 = zero-add k.powers.t8 i };
-  exp = record { a = +ℤ_idl k.exp.a i; b = +ℤ_idl k.exp.b i };
-}
-
 one-mul : (c : ℤ) → pos 1 *ℤ c ≡ c
 one-mul c = omega (arith, ints)
 
 unit-row : (g : Sum) → row_sum (unit, pos 1) g ≡ g
 unit-row [] = refl
 unit-row (u ∷ g) = let e = unit-mul u.0 in let c = one-mul u.1 in let r = unit-row g in λ i. (e i, c i) ∷ r i
-
-pub cut-low : (n : ℕ) (g : Sum) → Every (λ t. degree t.0 ≤ n) g → cut n g ≡ g
-cut-low n [] h = refl
-cut-low n (t ∷ g) h = rw (le-leb (degree t.0) n h.0) (ap (λ r. t ∷ r) (cut-low n g h.1))
 
 pub one-mul_cut : (n : ℕ) (g : Sum) → mul n one g ≡ cut n g
 one-mul_cut n g = append-nil (cut n (row_sum (unit, pos 1) g)) ∙ ap (cut n) (unit-row g)
@@ -92,7 +83,7 @@ mul-every P Q R c n (t ∷ f) g h k = Every-append (λ u. R u.0) (cut n (row_sum
     row [] e = tt
     row (u ∷ g) e = (c t.0 u.0 h.0 e.0, row g e.1)
 
-pub tame-mul : (k l : Key) → IsTame k → IsTame l → IsTame (key_mul k l)
+pub tame-mul : (k l : Key) → GrowsSlowly k → GrowsSlowly l → GrowsSlowly (key_mul k l)
 tame-mul k l h i =
     let p = h.0 in let q = h.1 in let r = i.0 in let s = i.1 in
     let d = degree-mul k l in
@@ -100,16 +91,16 @@ tame-mul k l h i =
     let b = abs-add k.exp.b l.exp.b in
     (rw d (omega (arith, a)), rw d (omega (arith, b)))
 
-pub pow-tame : (n : ℕ) (f : Sum) (i : ℕ) → Every (λ t. IsTame t.0) f → Every (λ t. IsTame t.0) (pow n f i)
+pub pow-tame : (n : ℕ) (f : Sum) (i : ℕ) → Every (λ t. GrowsSlowly t.0) f → Every (λ t. GrowsSlowly t.0) (pow n f i)
 pow-tame n f zero h = ((omega arith, omega arith), tt)
-pow-tame n f (suc i) h = mul-every IsTame IsTame IsTame tame-mul n f (pow n f i) h (pow-tame n f i h)
+pow-tame n f (suc i) h = mul-every GrowsSlowly GrowsSlowly GrowsSlowly tame-mul n f (pow n f i) h (pow-tame n f i h)
 
-pub rest-tame : (f : Sum) → IsNear f → Every (λ t. 1 ≤ degree t.0) (rest f) → Every (λ t. IsTame t.0) f
+pub rest-tame : (f : Sum) → HasNearTerms f → Every (λ t. 1 ≤ degree t.0) (rest f) → Every (λ t. GrowsSlowly t.0) f
 rest-tame [] h r = tt
 rest-tame (t ∷ f) h r = go (key_eq t.0 unit) refl r (rest-tame f h.1)
   where
-    go : (b : Bool) → key_eq t.0 unit ≡ b → Every (λ t. 1 ≤ degree t.0) (cond (not b) (t ∷ rest f) (rest f)) → (Every (λ t. 1 ≤ degree t.0) (rest f) → Every (λ t. IsTame t.0) f) → Every (λ t. IsTame t.0) (t ∷ f)
-    go true e s i = (subst IsTame (sym (key_eq-same t.0 unit e)) (omega arith, omega arith), i s)
+    go : (b : Bool) → key_eq t.0 unit ≡ b → Every (λ t. 1 ≤ degree t.0) (cond (not b) (t ∷ rest f) (rest f)) → (Every (λ t. 1 ≤ degree t.0) (rest f) → Every (λ t. GrowsSlowly t.0) f) → Every (λ t. GrowsSlowly t.0) (t ∷ f)
+    go true e s i = (subst GrowsSlowly (sym (key_eq-same t.0 unit e)) (omega arith, omega arith), i s)
     go false e s i = let d = s.0 in let p = h.0.0 in let q = h.0.1 in ((omega (arith, d), omega (arith, d)), i s.1)
 
 pub key-from : (P : Key → Type 0) (f : Sum) (k : Key) → Every (λ t. P t.0) f → coef f k ≢ pos 0 → P k
@@ -121,14 +112,14 @@ key-from P (t ∷ f) k h n = go (key_eq t.0 k) refl (key-from P f k h.1)
     go false e i = i (λ z. n (rw (e, z) refl))
 
 -- a reduced list has only keys of the sum
-pub reduced-keys : (rule : Arithmetic) (P : Key → Type 0) (n : ℕ) (r f : Sum) → IsReduced rule n r f → Every (λ t. P t.0) f → Every (λ t. P t.0) r
+pub reduced-keys : (rule : Arithmetic) (P : Key → Type 0) (n : ℕ) (r f : Sum) → IsKeptAs rule n r f → Every (λ t. P t.0) f → Every (λ t. P t.0) r
 reduced-keys rule P n r f h e = go r (rising-own r h.series.rises) h.series.nonzero h.keeps
   where
     go : (g : Sum) → Every (λ t. coef r t.0 ≡ t.1) g → Every (λ t. t.1 ≢ pos 0) g → Every (λ t. (kept rule t.1 ≡ t.1) × IsKeepable rule t.1) g → Every (λ t. P t.0) g
     go [] o z k = tt
     go (t ∷ g) o z k = (key-from P f t.0 e (λ q. z.0 (sym k.0.0 ∙ ap (kept rule) (sym o.0) ∙ h.same t.0 ∙ ap (kept rule) q ∙ kept-zero rule)), go g o.1 z.1 k.1)
 
-pub near-factor : (rule : Arithmetic) (n : ℕ) (r f : Sum) → IsReduced rule n r f → Every (λ t. IsNearKey t.0) f → IsFactor rule r
+pub near-factor : (rule : Arithmetic) (n : ℕ) (r f : Sum) → IsKeptAs rule n r f → Every (λ t. IsNearKey t.0) f → IsFactor rule r
 near-factor rule n r f h e = record {
   rises = h.series.rises;
   keepable = whole rule r h.keeps;
@@ -142,21 +133,21 @@ module _ (rule : Arithmetic) (n : ℕ) (f : Sum) (hf : Every (λ t. IsKeepable r
   pow-keepable zero = (keepable-one rule, tt)
   pow-keepable (suc i) = mul-keepable rule n f (pow n f i) hf (pow-keepable i)
 
-  pub pow-square : (i : ℕ) (r s : Sum) → IsReduced rule n r (pow n f i) → IsReduced rule n s (mul n r r) → IsReduced rule n s (pow n f (i + i))
+  pub pow-square : (i : ℕ) (r s : Sum) → IsKeptAs rule n r (pow n f i) → IsKeptAs rule n s (mul n r r) → IsKeptAs rule n s (pow n f (i + i))
   pow-square i r s h k = reduced-same rule n s _ (pow n f (i + i)) (product-reduced rule n s r r (pow n f i) (pow n f i) h h k) (pow-keepable (i + i)) (pow-add n f i i)
 
-  pub pow-more : (i : ℕ) (a r s : Sum) → IsReduced rule n a f → IsReduced rule n r (pow n f i) → IsReduced rule n s (mul n a r) → IsReduced rule n s (pow n f (i + 1))
+  pub pow-more : (i : ℕ) (a r s : Sum) → IsKeptAs rule n a f → IsKeptAs rule n r (pow n f i) → IsKeptAs rule n s (mul n a r) → IsKeptAs rule n s (pow n f (i + 1))
   pow-more i a r s h k l = rw add-one (product-reduced rule n s a r f (pow n f i) h k l)
 
-  pub sum-more : (i : ℕ) (r s p : Sum) → IsReduced rule n r (powers_to n f i) → IsReduced rule n s (pow n f (i + 1))
-      → ((m : ℕ) (u v : Sum) → IsReduced rule m r u → IsReduced rule m s v → IsReduced rule m p (u ++ v)) → IsReduced rule n p (powers_to n f (i + 1))
+  pub sum-more : (i : ℕ) (r s p : Sum) → IsKeptAs rule n r (powers_to n f i) → IsKeptAs rule n s (pow n f (i + 1))
+      → ((m : ℕ) (u v : Sum) → IsKeptAs rule m r u → IsKeptAs rule m s v → IsKeptAs rule m p (u ++ v)) → IsKeptAs rule n p (powers_to n f (i + 1))
   sum-more i r s p h k m = rw add-one (m n (powers_to n f i) (pow n f (suc i)) h (rw add-one at k))
 
-pub powers-tame : (n : ℕ) (f : Sum) (i : ℕ) → Every (λ t. IsTame t.0) f → Every (λ t. IsTame t.0) (powers_to n f i)
+pub powers-tame : (n : ℕ) (f : Sum) (i : ℕ) → Every (λ t. GrowsSlowly t.0) f → Every (λ t. GrowsSlowly t.0) (powers_to n f i)
 powers-tame n f zero h = ((omega arith, omega arith), tt)
-powers-tame n f (suc i) h = Every-append (λ t. IsTame t.0) (powers_to n f i) (pow n f (suc i)) (powers-tame n f i h) (pow-tame n f (suc i) h)
+powers-tame n f (suc i) h = Every-append (λ t. GrowsSlowly t.0) (powers_to n f i) (pow n f (suc i)) (powers-tame n f i h) (pow-tame n f (suc i) h)
 
-pub one-reduced : (rule : Arithmetic) (n : ℕ) → IsReduced rule n one one
+pub one-reduced : (rule : Arithmetic) (n : ℕ) → IsKeptAs rule n one one
 one-reduced rule n = record {
   series = record { rises = (tt, tt); nonzero = (λ e. cc, tt); low = (omega arith, tt) };
   keeps = ((kept-one rule, keepable-one rule), tt);

@@ -4,7 +4,7 @@
 --                            degree 0 has its own highest power there, so its exponent is small by as much.
 use Rattle.std.proofs.Common.{◌≡◌, ◌≢◌, ℕ, zero, suc, ◌+◌, ◌*◌, ◌/◌, ◌≤◌, ◌^◌, refl, sym, subst, ap, ◌∙◌, Bool, true, false, cond, [], ◌∷◌, ◌⊎◌, inl, inr, arith}
 use Rattle.std.specs.Prelude.{ℤ, pos, negsuc, neg_ℤ, ◌+ℤ◌, ◌*ℤ◌, ◌≤ℤ◌, nat_le, nat_abs}
-use Rattle.std.proofs.Math.Nat.{le_trans, mul_comm, zero-mul, one-le-mul, mul-div-le, mul-le-mul_right}
+use Rattle.std.proofs.Math.Nat.{le_trans, mul_comm, zero-mul, mul-div-le, mul-le-mul_right}
 use Rattle.std.proofs.lemmas.Nat.{le-div}
 use Rattle.std.proofs.lemmas.Int.{ints}
 use Rattle.std.proofs.lemmas.Bool.{le-leb}
@@ -12,25 +12,27 @@ use Rattle.scattering.specs.Collections.{Every}
 use Rattle.scattering.specs.Series.{Key, Term, Sum, degree, key_eq, key_mul, coef, coef_at, cut, term_mul, mul, pow, unit}
 use Rattle.scattering.proofs.Keys.{key_eq-same, key_eq-refl}
 use Rattle.trunc_series.specs.declared.arithmetic.Arithmetic.TheVariants.{Saturating}
-use Rattle.trunc_series.specs.Shown.{IsNear, HasNearKeys}
+use Rattle.trunc_series.specs.Shown.{HasNearTerms, HasNearKeys}
 use Rattle.trunc_series.specs.Capped.{IsMajorant}
-use Rattle.trunc_series.specs.Reduced.{IsNearKey, IsTame, ArePowersNear}
-use Rattle.trunc_series.proofs.Coefficients.{abs-add, coef-append, keepable-at, keepable-coef}
+use Rattle.trunc_series.specs.Reduced.{IsNearKey, GrowsSlowly, ArePowersNear}
+use Rattle.trunc_series.proofs.Coefficients.{abs-add, keepable-at, keepable-coef}
 use Rattle.trunc_series.proofs.Kept.{keepable-mul}
 use Rattle.trunc_series.proofs.Majorants.{majorant-keepable}
 use Rattle.trunc_series.proofs.Merging.{Keepable}
 use Rattle.trunc_series.proofs.Rows.{row_sum, sum-keepable, Every-filter, mul-keepable}
-use Rattle.trunc_series.proofs.Associate.{degree-mul}
 use Rattle.scattering.proofs.DistinctKeys.{rising-own}
+use Rattle.scattering.proofs.Pairing.{coef-append}
+use Rattle.scattering.proofs.ShiftedSums.{degree-mul}
 use Rattle.trunc_series.proofs.PowerLaws.{pow-low, pow-tame, pow-keepable, mul-every}
+use Rattle.sum_algebra.proofs.Integers.{positive-mul}
 
 -- ---- exponents that grow no faster than the degree
 
-pub tame-near : (n : ℕ) (f : Sum) → n ≤ 24 → Every (λ t. IsTame t.0) f → Every (λ t. degree t.0 ≤ n) f → Every (λ t. IsNearKey t.0) f
+pub tame-near : (n : ℕ) (f : Sum) → n ≤ 24 → Every (λ t. GrowsSlowly t.0) f → Every (λ t. degree t.0 ≤ n) f → Every (λ t. IsNearKey t.0) f
 tame-near n [] o h l = tt
 tame-near n (t ∷ f) o h l = let p = h.0.0 in let q = h.0.1 in let d = l.0 in ((omega (arith, p, d), omega (arith, q, d)), tame-near n f o h.1 l.1)
 
-pub tame-powers : (n : ℕ) (f : Sum) (m : ℕ) → n ≤ 24 → Every (λ t. IsTame t.0) f → ArePowersNear n f m
+pub tame-powers : (n : ℕ) (f : Sum) (m : ℕ) → n ≤ 24 → Every (λ t. GrowsSlowly t.0) f → ArePowersNear n f m
 tame-powers n f m o h i l = tame-near n (pow n f i) o (pow-tame n f i h) (pow-low n f i)
 
 -- ---- a term of degree 0 and its powers
@@ -43,24 +45,6 @@ key_pow (suc i) k = key_mul k (key_pow i k)
 degree-pow : (i : ℕ) (k : Key) → degree k ≡ 0 → degree (key_pow i k) ≡ 0
 degree-pow zero k e = refl
 degree-pow (suc i) k e = degree-mul k (key_pow i k) ∙ rw (e, degree-pow i k e) refl
-
-positive-mul : (x y : ℤ) → pos 1 ≤ℤ x → pos 1 ≤ℤ y → pos 1 ≤ℤ (x *ℤ y)
-positive-mul (pos x) (pos y) h k =
-    let a : 1 ≤ x = omega (arith, ints) in
-    let b : 1 ≤ y = omega (arith, ints) in
-    let c : 1 ≤ x * y = one-le-mul a b in
-    le-pos (x * y) c
-  where
-    le-pos : (m : ℕ) → 1 ≤ m → pos 1 ≤ℤ pos m
-    le-pos m h = omega (arith, ints)
-positive-mul (pos x) (negsuc y) h k = absurd (below y k)
-  where
-    below : (c : ℕ) → pos 1 ≤ℤ negsuc c → ⊥
-    below c p = omega (arith, ints)
-positive-mul (negsuc x) y h k = absurd (below x h)
-  where
-    below : (c : ℕ) → pos 1 ≤ℤ negsuc c → ⊥
-    below c p = omega (arith, ints)
 
 at-own : (t : Term) (k : Key) → key_eq t.0 k ≡ true → coef_at k t ≡ t.1
 at-own t k e = rw e refl
@@ -177,7 +161,7 @@ within-near : (n c : ℕ) (f : Sum) → n ≤ 24 → c ≤ 2 ^ 16 → Every (λ 
 within-near n c [] o b h l = tt
 within-near n c (t ∷ f) o b h l = let p = h.0.0 in let q = h.0.1 in let d = l.0 in ((omega (arith, p, d), omega (arith, q, d)), within-near n c f o b h.1 l.1)
 
-module _ (n : ℕ) (f : Sum) (m : ℕ) (o : n ≤ 24) (s : IsMajorant n f) (w : IsNear f) (r : HasNearKeys (pow n f (suc m))) where
+module _ (n : ℕ) (f : Sum) (m : ℕ) (o : n ≤ 24) (s : IsMajorant n f) (w : HasNearTerms f) (r : HasNearKeys (pow n f (suc m))) where
   -- the largest exponent that the highest power has room for
   abbrev room : ℕ
   room = 2 ^ 16 / suc m
@@ -206,7 +190,7 @@ module _ (n : ℕ) (f : Sum) (m : ℕ) (o : n ≤ 24) (s : IsMajorant n f) (w : 
       go zero e = constant-within t.0 e (rw own (omega (arith, ints)))
       go (suc d) e = let a = near.0 in let b = near.1 in (rw e (omega (arith, a)), rw e (omega (arith, b)))
 
-  all-within : (g : Sum) → IsNear g → Every (λ t. coef f t.0 ≡ t.1) g → Every (λ t. t.1 ≢ pos 0) g → Keepable Saturating g → Every (λ t. IsWithin room t.0) g
+  all-within : (g : Sum) → HasNearTerms g → Every (λ t. coef f t.0 ≡ t.1) g → Every (λ t. t.1 ≢ pos 0) g → Keepable Saturating g → Every (λ t. IsWithin room t.0) g
   all-within [] a b c d = tt
   all-within (t ∷ g) a b c d = (term-within t a.0 b.0 c.0 d.0, all-within g a.1 b.1 c.1 d.1)
 
@@ -215,7 +199,7 @@ module _ (n : ℕ) (f : Sum) (m : ℕ) (o : n ≤ 24) (s : IsMajorant n f) (w : 
       within-near n (i * room) (pow n f i) o (times-room i l)
       (pow-within n f room (all-within f w (rising-own f s.series.rises) s.series.nonzero (majorant-keepable n f s)) i) (pow-low n f i)
 
-pub near-powers : (n : ℕ) (f : Sum) (m : ℕ) → n ≤ 24 → IsMajorant n f → IsNear f → HasNearKeys (pow n f m) → ArePowersNear n f m
+pub near-powers : (n : ℕ) (f : Sum) (m : ℕ) → n ≤ 24 → IsMajorant n f → HasNearTerms f → HasNearKeys (pow n f m) → ArePowersNear n f m
 near-powers n f zero o s w r zero l = ((omega arith, omega arith), tt)
 near-powers n f zero o s w r (suc i) l = absurd (no i l)
   where

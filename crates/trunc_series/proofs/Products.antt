@@ -4,13 +4,15 @@ use Rattle.std.specs.Prelude.{pos, ◌*ℤ◌, nat_abs, nat_le}
 use Rattle.std.proofs.lemmas.Int.{unsigned_abs-mul}
 use Rattle.scattering.specs.Collections.{Every}
 use Rattle.scattering.specs.Series.{Term, Sum, degree, key_mul, term_mul, cut, mul, mass_to, absolute}
+use Rattle.scattering.proofs.Lists.{Every-implies, Every-append}
+use Rattle.scattering.proofs.Coefficients.{low-cut}
 use Rattle.trunc_series.specs.declared.arithmetic.Arithmetic.TheVariants.{Wrapping}
-use Rattle.trunc_series.specs.Shown.{IsValid, IsNear}
+use Rattle.trunc_series.specs.Shown.{IsValid, HasNearTerms}
 use Rattle.trunc_series.specs.Arithmetic.{IsKeepable}
-use Rattle.trunc_series.specs.Reduced.{IsReduced, IsFactor, IsNearKey}
-use Rattle.trunc_series.proofs.Coefficients.{Every-weaker, Every-append, abs-coef}
+use Rattle.trunc_series.specs.Reduced.{IsKeptAs, IsFactor, IsNearKey}
+use Rattle.trunc_series.proofs.Coefficients.{abs-coef}
 use Rattle.trunc_series.proofs.Rows.{row_sum}
-use Rattle.trunc_series.proofs.Exact.{Made, exact, low-cut}
+use Rattle.trunc_series.proofs.Exact.{Made, exact}
 
 pub mass-append : (n : ℕ) (f g : Sum) → mass_to n (f ++ g) ≡ mass_to n f + mass_to n g
 mass-append n [] g = omega arith
@@ -47,11 +49,11 @@ pub low-mul : (n : ℕ) (f g : Sum) → Every (λ t. degree t.0 ≤ n) (mul n f 
 low-mul n [] g = tt
 low-mul n (t ∷ f) g = Every-append (λ u. degree u.0 ≤ n) (cut n (row_sum t g)) (mul n f g) (low-cut n (row_sum t g)) (low-mul n f g)
 
-pub near-keys : (f : Sum) → IsNear f → Every (λ t. IsNearKey t.0) f
-near-keys f h = Every-weaker (λ (t : Term). (nat_abs t.0.exp.a ≤ 2 ^ 16) × (nat_abs t.0.exp.b ≤ 2 ^ 16)) (λ t. IsNearKey t.0) f (λ t i. let p = i.0 in let q = i.1 in (omega arith, omega arith)) h
+pub near-keys : (f : Sum) → HasNearTerms f → Every (λ t. IsNearKey t.0) f
+near-keys f h = Every-implies (λ (t : Term). (nat_abs t.0.exp.a ≤ 2 ^ 16) × (nat_abs t.0.exp.b ≤ 2 ^ 16)) (λ t. IsNearKey t.0) f (λ t i. let p = i.0 in let q = i.1 in (omega arith, omega arith)) h
 
-pub valid-factor : (n : ℕ) (f : Sum) → IsValid n f → IsNear f → IsFactor Wrapping f
-valid-factor n f v h = record { rises = v.series.rises; keepable = Every-weaker (λ (t : Term). nat_abs t.1 < 2 ^ 127) (λ t. IsKeepable Wrapping t.1) f (λ t i. tt) v.small; near = near-keys f h }
+pub valid-factor : (n : ℕ) (f : Sum) → IsValid n f → HasNearTerms f → IsFactor Wrapping f
+valid-factor n f v h = record { rises = v.series.rises; keepable = Every-implies (λ (t : Term). nat_abs t.1 < 2 ^ 127) (λ t. IsKeepable Wrapping t.1) f (λ t i. tt) v.small; near = near-keys f h }
 
-pub made-product : (n : ℕ) (a b r : Sum) → n ≤ 24 → mass_to n (mul n (absolute a) (absolute b)) ≤ 2 ^ 126 → IsReduced Wrapping n r (mul n a b) → Made n r (mul n a b)
+pub made-product : (n : ℕ) (a b r : Sum) → n ≤ 24 → mass_to n (mul n (absolute a) (absolute b)) ≤ 2 ^ 126 → IsKeptAs Wrapping n r (mul n a b) → Made n r (mul n a b)
 made-product n a b r o mass h = exact n r (mul n a b) o h (λ k. omega (arith, abs-coef n (mul n a b) k (low-mul n a b), mass-absolute n a b, mass))

@@ -3,12 +3,11 @@ use Rattle.std.proofs.Common.{◌≡◌, ℕ, zero, suc, refl, sym, ap, ◌∙�
 use Rattle.std.specs.Prelude.{◌+ℤ◌}
 use lib.IntN.{+ℤ_assoc, +ℤ_comm, +ℤ_invr}
 use Rattle.scattering.specs.Series.{Key, Sum, coef, minus, mul, pow}
-use Rattle.scattering.proofs.Pairing.{pairing-append, coef-minus}
+use Rattle.scattering.proofs.Pairing.{pairing-append, coef-minus, coef-append}
+use Rattle.scattering.proofs.Determined.{terms-unique}
 use Rattle.trunc_series.specs.Laws.{SeriesIsDetermined, AdditionCommutes, AdditionIsAssociative, ZeroIsNeutral, NegativeCancels, MultiplicationDistributes, AdditionKeepsSame, MultiplicationKeepsSame, PowersKeepSame, OneIsNeutral}
-use Rattle.trunc_series.proofs.Coefficients.{coef-append}
 use Rattle.trunc_series.proofs.Congruence.{weight, mul-weight, mul-comm}
 use Rattle.trunc_series.proofs.PowerLaws.{mul-one, mul-same_left, mul-same_right}
-use Rattle.trunc_series.proofs.Unique.{terms-unique}
 
 pub series-determined : SeriesIsDetermined
 series-determined s s' n f f' h h' e =

@@ -6,10 +6,12 @@ use Rattle.scattering.specs.Collections.{Every, EveryPair}
 use Rattle.scattering.specs.Series.{Key, Term, Sum, Same, degree, int_eq, key_eq, key_before, key_mul, term_mul, coef, coef_at, cut, mul}
 use Rattle.trunc_series.specs.declared.arithmetic.Arithmetic.{Arithmetic}
 use Rattle.trunc_series.specs.Arithmetic.{kept, IsKeepable}
-use Rattle.trunc_series.specs.Reduced.{IsReduced, pairs}
+use Rattle.trunc_series.specs.Reduced.{IsKeptAs, pairs}
 use Rattle.scattering.proofs.KeyOrder.{key_before-mul}
+use Rattle.scattering.proofs.Lists.{Every-implies, Every-append}
+use Rattle.scattering.proofs.Pairing.{coef-append}
 use Rattle.trunc_series.proofs.Kept.{keepable-mul, keepable-kept, kept-kept, kept-same_right, kept-same_left}
-use Rattle.trunc_series.proofs.Coefficients.{Every-weaker, Every-append, coef-append, keepable-at, keepable-coef}
+use Rattle.trunc_series.proofs.Coefficients.{keepable-at, keepable-coef}
 use Rattle.trunc_series.proofs.Merging.{add_term, add_term-coef, Keepable}
 
 -- a term times a list
@@ -41,10 +43,10 @@ module _ (rule : Arithmetic) (t : Term) where
     where
       go : (b : Bool) → EveryPair (λ v u. IsTrue (key_before v.0 u.0)) (row_of g) → EveryPair (λ v u. IsTrue (key_before v.0 u.0)) (cond b (row_of g) (product_of u ∷ row_of g))
       go true i = i
-      go false i = (row-every (λ v. IsTrue (key_before (key_mul t.0 u.0) v.0)) g (Every-weaker (λ (v : Term). IsTrue (key_before u.0 v.0)) _ g (λ v b n. key_before-mul t.0 u.0 v.0 ∙ b) r.0), i)
+      go false i = (row-every (λ v. IsTrue (key_before (key_mul t.0 u.0) v.0)) g (Every-implies (λ (v : Term). IsTrue (key_before u.0 v.0)) _ g (λ v b n. key_before-mul t.0 u.0 v.0 ∙ b) r.0), i)
 
   row-keepable : (g : Sum) → IsKeepable rule t.1 → Keepable rule g → Keepable rule (row_of g)
-  row-keepable g h hg = row-every (λ v. IsKeepable rule v.1) g (Every-weaker (λ (u : Term). IsKeepable rule u.1) _ g (λ u i n. keepable-kept rule _ (keepable-mul rule t.1 u.1 h i)) hg)
+  row-keepable g h hg = row-every (λ v. IsKeepable rule v.1) g (Every-implies (λ (u : Term). IsKeepable rule u.1) _ g (λ u i n. keepable-kept rule _ (keepable-mul rule t.1 u.1 h i)) hg)
 
   pub sum-keepable : (g : Sum) → IsKeepable rule t.1 → Keepable rule g → Keepable rule (row_sum t g)
   sum-keepable [] h hg = tt
@@ -67,14 +69,14 @@ module _ (rule : Arithmetic) (t : Term) where
   degree-mul : (k l : Key) → degree (key_mul k l) ≡ degree k + degree l
   degree-mul k l = omega arith
 
-  pub row-reduced : (n : ℕ) (g : Sum) → IsKeepable rule t.1 → Keepable rule g → EveryPair (λ v u. IsTrue (key_before v.0 u.0)) g → Every (λ u. degree t.0 + degree u.0 ≤ n) g → IsReduced rule n (row_of g) (row_sum t g)
+  pub row-reduced : (n : ℕ) (g : Sum) → IsKeepable rule t.1 → Keepable rule g → EveryPair (λ v u. IsTrue (key_before v.0 u.0)) g → Every (λ u. degree t.0 + degree u.0 ≤ n) g → IsKeptAs rule n (row_of g) (row_sum t g)
   row-reduced n g h hg r l = record {
     series = record {
       rises = row-rises g r;
-      nonzero = row-every (λ v. v.1 ≢ pos 0) g (Every-weaker (λ (u : Term). degree t.0 + degree u.0 ≤ n) _ g (λ u i z. z) l);
-      low = row-every (λ v. degree v.0 ≤ n) g (Every-weaker (λ (u : Term). degree t.0 + degree u.0 ≤ n) _ g (λ u i z. omega (arith, degree-mul t.0 u.0, i)) l);
+      nonzero = row-every (λ v. v.1 ≢ pos 0) g (Every-implies (λ (u : Term). degree t.0 + degree u.0 ≤ n) _ g (λ u i z. z) l);
+      low = row-every (λ v. degree v.0 ≤ n) g (Every-implies (λ (u : Term). degree t.0 + degree u.0 ≤ n) _ g (λ u i z. omega (arith, degree-mul t.0 u.0, i)) l);
     };
-    keeps = row-every (λ v. (kept rule v.1 ≡ v.1) × IsKeepable rule v.1) g (Every-weaker (λ (u : Term). IsKeepable rule u.1) _ g (λ u i n. (kept-kept rule (t.1 *ℤ u.1), keepable-kept rule _ (keepable-mul rule t.1 u.1 h i))) hg);
+    keeps = row-every (λ v. (kept rule v.1 ≡ v.1) × IsKeepable rule v.1) g (Every-implies (λ (u : Term). IsKeepable rule u.1) _ g (λ u i n. (kept-kept rule (t.1 *ℤ u.1), keepable-kept rule _ (keepable-mul rule t.1 u.1 h i))) hg);
     keepable = sum-keepable g h hg;
     same = λ k. row-coef k g h hg;
   }
@@ -191,11 +193,11 @@ level-degree n (t ∷ f) = go (degree t.0 == n) refl (level-degree n f)
     go true e i = (same (degree t.0) e, i)
     go false e i = i
 
-pub reduced-same : (rule : Arithmetic) (n : ℕ) (r f g : Sum) → IsReduced rule n r f → Keepable rule g → Same f g → IsReduced rule n r g
+pub reduced-same : (rule : Arithmetic) (n : ℕ) (r f g : Sum) → IsKeptAs rule n r f → Keepable rule g → Same f g → IsKeptAs rule n r g
 reduced-same rule n r f g h k s = record { series = h.series; keeps = h.keeps; keepable = k; same = λ l. h.same l ∙ ap (kept rule) (s l) }
 
 pub level-reduced : (rule : Arithmetic) (n d : ℕ) (r f g : Sum) → d ≤ n → Keepable rule f → Keepable rule g
-    → IsReduced rule n r (mul n (below d f) g ++ pairs (level d f) (cut (n - d) g)) → IsReduced rule n r (mul n (below (d + 1) f) g)
+    → IsKeptAs rule n r (mul n (below d f) g ++ pairs (level d f) (cut (n - d) g)) → IsKeptAs rule n r (mul n (below (d + 1) f) g)
 level-reduced rule n d r f g l hf hg h =
     reduced-same rule n r _ _ h (mul-keepable rule n (below (d + 1) f) g (Every-filter (λ u. IsKeepable rule u.1) (λ t. nat_lt (degree t.0) (d + 1)) f hf) hg)
     (λ k. coef-append (mul n (below d f) g) (pairs (level d f) (cut (n - d) g)) k ∙ levels n d g k l f)

@@ -7,14 +7,14 @@ use Rattle.std.specs.Ordering.{ordering_index}
 use Rattle.std.specs.declared.cmp.Ordering.{Ordering}
 use Rattle.std.specs.declared.cmp.Ordering.TheVariants.{Less, Equal, Greater}
 use Rattle.scattering.specs.Collections.{Every, EveryPair}
-use Rattle.scattering.specs.Series.{Key, Term, Sum, int_eq, key_before}
+use Rattle.scattering.specs.Series.{Key, Term, Sum, degree, int_eq, key_before}
 use Rattle.trunc_series.specs.declared.key.Key.{Key as CodeKey}
 use Rattle.trunc_series.specs.declared.arithmetic.Arithmetic.{Arithmetic}
-use Rattle.trunc_series.specs.Shown.{key_of, term_of, sum_of}
+use Rattle.trunc_series.specs.Shown.{key_of, term_of, sum_of, IsTerm, IsValid}
 use Rattle.trunc_series.specs.Arithmetic.{kept}
 use Rattle.trunc_series.specs.Reduced.{unless_zero, key_order}
 use Rattle.scattering.proofs.KeyOrder.{key_before-trans}
-use Rattle.trunc_series.proofs.Coefficients.{Every-weaker}
+use Rattle.scattering.proofs.Lists.{Every-from_In, Every-at as of-every, Every-implies}
 use Rattle.trunc_series.proofs.Merging.{merge, merge-nil}
 
 abbrev pub no_term : CodeKey × ℤ
@@ -120,7 +120,7 @@ rises-adjacent (t ∷ []) h = (tt, tt)
 rises-adjacent (t ∷ u ∷ a) h =
     let r = rises-adjacent (u ∷ a) (λ k l. h (suc k) (omega arith)) in
     let first : key_before (key_of t.0) (key_of u.0) ≡ true = h 0 (omega arith) in
-    ((first, Every-weaker (λ (v : Term). IsTrue (key_before (key_of u.0) v.0)) (λ v. IsTrue (key_before (key_of t.0) v.0)) (sum_of a) (λ v b. key_before-trans (key_of t.0) (key_of u.0) v.0 first b) r.0), r)
+    ((first, Every-implies (λ (v : Term). IsTrue (key_before (key_of u.0) v.0)) (λ v. IsTrue (key_before (key_of t.0) v.0)) (sum_of a) (λ v b. key_before-trans (key_of t.0) (key_of u.0) v.0 first b) r.0), r)
 
 pub less-before : (k l : Key) → key_order k l ≡ Less → key_before k l ≡ true
 less-before k l e = is-less _ _ e
@@ -141,3 +141,11 @@ adjacent-more a i one h e k l = go (dec_le (suc (suc k)) i)
         let p : i ≡ suc k = omega (arith, n) in
         let q : i - 1 ≡ k = omega (arith, n) in
         less-before (key_of (at a k).0) (key_of (at a (suc k)).0) (subst (λ (m : ℕ). key_order (key_of (at a k).0) (key_of (at a m).0) ≡ Less) p (subst (λ (m : ℕ). key_order (key_of (at a m).0) (key_of (at a i).0) ≡ Less) q e))
+
+-- ---- what the terms of a series keep
+
+pub terms-raised : (m n : ℕ) (f : Sum) → m ≤ n → IsValid m f → Every (IsTerm n) f
+terms-raised m n f l v = Every-from_In _ f (λ t i. (of-every _ f t v.series.nonzero i, of-every _ f t v.small i, let d = of-every (λ (u : Term). degree u.0 ≤ m) f t v.series.low i in omega (arith, d, l)))
+
+pub terms-own : (n : ℕ) (f : Sum) → IsValid n f → Every (IsTerm n) f
+terms-own n f v = terms-raised n n f (omega arith) v

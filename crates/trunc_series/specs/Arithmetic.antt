@@ -1,13 +1,14 @@
 -- How coefficients are kept: modulo 2^128, or as the lesser of their value and a limit.
-use Rattle.std.specs.Prelude.{◌+◌, ◌^◌, ℤ, pos, ◌≤ℤ◌}
+use Rattle.std.specs.Prelude.{◌+◌, ℤ, pos, ◌≤ℤ◌}
 use Rattle.std.specs.Int.{int_wrap, int_min}
+use Rattle.limits.specs.Limits.{largest_weight}
 use mir.Syntax.{w128}
 use Rattle.trunc_series.specs.declared.arithmetic.Arithmetic.{Arithmetic}
 use Rattle.trunc_series.specs.declared.arithmetic.Arithmetic.TheVariants.{Wrapping, Saturating}
 
 -- 2^126 + 1
 abbrev pub limit : ℤ
-limit = pos (2 ^ 126 + 1)
+limit = pos (largest_weight + 1)
 
 -- a whole number as it is kept
 abbrev pub kept : Arithmetic → ℤ → ℤ

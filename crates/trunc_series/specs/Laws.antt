@@ -1,10 +1,11 @@
 -- What is proved here of sums, and of series of one order n: the laws of a commutative ring, and how bounds carry over.
 -- Sums are compared by their coefficients; products and powers are modulo degree n + 1. An operation's result is a series of
 -- the sum that its contract names, so by `SeriesIsDetermined` each law of sums is one of results, as equal series.
-use Rattle.std.specs.Prelude.{◌≡◌, ℕ, ◌+◌, ◌*◌, ◌^◌, ◌≤◌, [], ◌++◌, ℤ, pos, ◌+ℤ◌}
+use Rattle.std.specs.Prelude.{◌≡◌, ℕ, ◌+◌, ◌*◌, ◌≤◌, ◌↔◌, suc, [], ◌++◌, ℤ, pos, negsuc, ◌+ℤ◌}
+use Rattle.limits.specs.Limits.{largest_weight}
 use Rattle.scattering.specs.Collections.{Every}
-use Rattle.scattering.specs.Series.{Sum, IsSeries, Same, degree, coef, unit, rest, one, minus, absolute, inverse, mul, pow, power, mass_to}
-use Rattle.trunc_series.specs.Shown.{Seen, IsSeriesOf, IsNear}
+use Rattle.scattering.specs.Series.{Sum, IsSeries, Same, degree, coef, unit, rest, one, minus, absolute, inverse, geometric, mul, pow, power, mass_to}
+use Rattle.trunc_series.specs.Shown.{Seen, IsSeriesOf, HasNearTerms, majorant_power}
 use Rattle.trunc_series.specs.Capped.{IsMajorantOf}
 
 -- ---- series
@@ -73,10 +74,10 @@ abbrev pub SeriesHasLeastMass : Type 0
 SeriesHasLeastMass = (s : Seen) (n : ℕ) (f : Sum) → IsSeriesOf s n f → mass_to n s.terms ≤ mass_to n f
 
 abbrev pub SeriesStaysNear : Type 0
-SeriesStaysNear = (s : Seen) (n : ℕ) (f : Sum) → IsSeriesOf s n f → IsNear f → IsNear s.terms
+SeriesStaysNear = (s : Seen) (n : ℕ) (f : Sum) → IsSeriesOf s n f → HasNearTerms f → HasNearTerms s.terms
 
 abbrev pub SumsStayNear : Type 0
-SumsStayNear = (f g : Sum) → IsNear f → IsNear g → IsNear (f ++ g)
+SumsStayNear = (f g : Sum) → HasNearTerms f → HasNearTerms g → HasNearTerms (f ++ g)
 
 abbrev pub MassesAdd : Type 0
 MassesAdd = (n : ℕ) (f g : Sum) → mass_to n (f ++ g) ≡ mass_to n f + mass_to n g
@@ -88,4 +89,19 @@ MassesMultiply = (n : ℕ) (f g : Sum) → mass_to n (mul n (absolute f) (absolu
 -- where the product of the majorants has a mass of at most 2^126, so has that of the absolute values: `mul`'s condition
 abbrev pub MajorantTestsProduct : Type 0
 MajorantTestsProduct = (n : ℕ) (f g : Sum) (a b p : Seen) → IsMajorantOf a n (absolute f) → IsMajorantOf b n (absolute g) → IsMajorantOf p n (mul n a.terms b.terms)
-    → mass_to n p.terms ≤ 2 ^ 126 → mass_to n (mul n (absolute f) (absolute g)) ≤ 2 ^ 126
+    → mass_to n p.terms ≤ largest_weight → mass_to n (mul n (absolute f) (absolute g)) ≤ largest_weight
+
+-- where the power of a majorant has a mass of at most 2^126, and only there, so has that of |f|: `power`'s condition for an
+-- exponent of at least 0
+abbrev pub MajorantTestsPower : Type 0
+MajorantTestsPower = (n i : ℕ) (f : Sum) (a p : Seen) → IsMajorantOf a n (absolute f) → IsMajorantOf p n (pow n a.terms i)
+    → (mass_to n p.terms ≤ largest_weight) ↔ (mass_to n (majorant_power n f (pos i)) ≤ largest_weight)
+
+-- the same of 1/(2 - |f|): `power`'s condition for an exponent below 0
+abbrev pub GeometricTestsNegativePower : Type 0
+GeometricTestsNegativePower = (n i : ℕ) (f : Sum) (g p : Seen) → IsMajorantOf g n (geometric n f) → IsMajorantOf p n (pow n g.terms (suc i))
+    → (mass_to n p.terms ≤ largest_weight) ↔ (mass_to n (majorant_power n f (negsuc i)) ≤ largest_weight)
+
+-- 1/(2 - |f|) can be made of the majorant of f, too
+abbrev pub MajorantHasGeometric : Type 0
+MajorantHasGeometric = (n : ℕ) (f : Sum) (a g : Seen) → IsMajorantOf a n (absolute f) → IsMajorantOf g n (geometric n a.terms) → IsMajorantOf g n (geometric n f)

@@ -1,12 +1,14 @@
 -- A sorted list of terms that stands for a sum, as the crate's own functions hand it on.
-use Rattle.std.specs.Prelude.{◌≡◌, ℕ, ◌+◌, ◌*◌, ◌<◌, ◌≤◌, ◌^◌, cond, pos, nat_abs, IsTrue, ℤ, List, [], ◌∷◌, map, flat_map}
+use Rattle.std.specs.Prelude.{◌≡◌, ℕ, ◌+◌, ◌*◌, ◌<◌, ◌≤◌, ◌^◌, cond, pos, nat_abs, IsTrue, ℤ, List, [], ◌∷◌, ◌++◌, map, flat_map}
 use Rattle.std.specs.declared.cmp.Ordering.{Ordering}
 use Rattle.std.specs.declared.cmp.Ordering.TheVariants.{Less, Equal, Greater}
+use Rattle.limits.specs.Limits.{largest_exponent}
 use Rattle.scattering.specs.Collections.{Every, EveryPair}
-use Rattle.scattering.specs.Series.{Key, Sum, IsSeries, int_eq, key_before, coef, degree, pow, term_mul}
+use Rattle.scattering.specs.Series.{Key, Sum, IsSeries, int_eq, key_before, coef, degree, mul, pow, powers_to, inverse, term_mul}
 use Rattle.trunc_series.specs.declared.arithmetic.Arithmetic.{Arithmetic}
 use Rattle.trunc_series.specs.declared.key.Key.{Key as CodeKey}
-use Rattle.trunc_series.specs.declared.arithmetic.Arithmetic.TheVariants.{Saturating}
+use Rattle.trunc_series.specs.declared.arithmetic.Arithmetic.TheVariants.{Wrapping, Saturating}
+use Rattle.trunc_series.specs.Shown.{key_of, term_of, sum_of}
 use Rattle.trunc_series.specs.Arithmetic.{kept, IsKeepable}
 
 -- how two keys stand
@@ -14,7 +16,7 @@ abbrev pub key_order : Key → Key → Ordering
 key_order k l = cond (key_before k l) Less (cond (key_before l k) Greater Equal)
 
 -- f is a series of order n, and each of its coefficients is that of g as it is kept
-pub record IsReduced (rule : Arithmetic) (n : ℕ) (f g : Sum) : Type 0 where
+pub record IsKeptAs (rule : Arithmetic) (n : ℕ) (f g : Sum) : Type 0 where
   pub series : IsSeries n f
   pub keeps : Every (λ t. (kept rule t.1 ≡ t.1) × IsKeepable rule t.1) f
   pub keepable : Every (λ t. IsKeepable rule t.1) g
@@ -47,9 +49,43 @@ abbrev pub absolute_sum : Sum → Sum
 absolute_sum f = map (λ t. (t.0, kept Saturating (pos (nat_abs t.1)))) f
 
 -- no exponent grows faster than the degree
-abbrev pub IsTame : Key → Type 0
-IsTame k = (nat_abs k.exp.a ≤ degree k * 2 ^ 16) × (nat_abs k.exp.b ≤ degree k * 2 ^ 16)
+abbrev pub GrowsSlowly : Key → Type 0
+GrowsSlowly k = (nat_abs k.exp.a ≤ degree k * largest_exponent) × (nat_abs k.exp.b ≤ degree k * largest_exponent)
 
 -- the exponents of the powers up to the m-th can be added to another in an i32
 abbrev pub ArePowersNear : ℕ → Sum → ℕ → Type 0
 ArePowersNear n f m = (i : ℕ) → i ≤ m → Every (λ t. IsNearKey t.0) (pow n f i)
+
+-- ---- what lists of terms of the program stand for
+
+abbrev pub Terms : Type 0
+Terms = List (CodeKey × ℤ)
+
+-- wherever the operands stand for sums, r stands for their sum
+abbrev pub AddsUp : Arithmetic → Terms → Terms → Terms → Type 0
+AddsUp rule a b r =
+    (n : ℕ) (f g : Sum) → IsKeptAs rule n (sum_of a) f → IsKeptAs rule n (sum_of b) g → IsKeptAs rule n (sum_of r) (f ++ g)
+
+-- t times each term of b has a degree of at most n
+abbrev pub RowFits : ℕ → CodeKey × ℤ → Terms → Type 0
+RowFits n t b = Every (λ u. degree (key_of t.0) + degree u.0 ≤ n) (sum_of b)
+
+abbrev pub IsRow : Arithmetic → CodeKey × ℤ → Terms → Terms → Type 0
+IsRow rule t b r = (n : ℕ) → RowFits n t b → IsKeptAs rule n (sum_of r) (map (term_mul (term_of t)) (sum_of b))
+
+abbrev pub IsSumOfRows : Arithmetic → Terms → Terms → Terms → Type 0
+IsSumOfRows rule a b r = (n : ℕ) → PairsFit n (sum_of a) (sum_of b) → IsKeptAs rule n (sum_of r) (pairs (sum_of a) (sum_of b))
+
+abbrev pub IsProduct : Arithmetic → ℕ → Terms → Terms → Terms → Type 0
+IsProduct rule n a b r = IsKeptAs rule n (sum_of r) (mul n (sum_of a) (sum_of b))
+
+-- 1 + g + .. + g^n
+abbrev pub SumsPowers : Arithmetic → ℕ → Terms → Terms → Type 0
+SumsPowers rule n g r = IsKeptAs rule n (sum_of r) (powers_to n (sum_of g) n)
+
+-- 1/f^i
+abbrev pub IsInversePower : ℕ → Terms → ℕ → Terms → Type 0
+IsInversePower n f i r = IsKeptAs Wrapping n (sum_of r) (pow n (inverse n (sum_of f)) i)
+
+abbrev pub AreCollected : ℕ → Terms → Terms → Type 0
+AreCollected n terms r = IsKeptAs Wrapping n (sum_of r) (sum_of terms)

@@ -2,9 +2,10 @@
 --     key_of, sum_of           a key, and a list of terms, of the program
 --     Seen                     what contracts see of a series: its order and its terms
 --     IsSeriesOf s n f         s is the series of order n with the coefficients of f
-use Rattle.std.specs.Prelude.{◌≡◌, ℕ, ◌<◌, ◌≤◌, ◌^◌, ◌≢◌, ℤ, pos, negsuc, suc, nat_abs, List, map, slice_index}
+use Rattle.std.specs.Prelude.{◌≡◌, ℕ, ◌+◌, ◌<◌, ◌≤◌, ◌^◌, ◌≢◌, ℤ, pos, negsuc, suc, nat_abs, List, map, slice_index}
+use Rattle.limits.specs.Limits.{highest_order, largest_exponent}
 use Rattle.scattering.specs.Collections.{Every}
-use Rattle.scattering.specs.Series.{Exp, Powers, Key, Term, Sum, IsSeries, Same, coef, degree, pow, absolute, geometric}
+use Rattle.scattering.specs.Series.{Exp, Powers, Key, Term, Sum, IsSeries, Same, coef, degree, mul, pow, absolute, geometric, mass_to}
 use Rattle.trunc_series.specs.declared.key.Exp.{Exp as CodeExp}
 use Rattle.trunc_series.specs.declared.key.Key.{Key as CodeKey}
 
@@ -40,19 +41,33 @@ IsTerm n t = (t.1 ≢ pos 0) × (nat_abs t.1 < 2 ^ 127) × (degree t.0 ≤ n)
 
 -- what each value keeps; with the least number of 128 bits left out, absolute values fit too
 pub record IsValid (n : ℕ) (f : Sum) : Type 0 where
-  pub order : n ≤ 24
+  pub order : n ≤ highest_order
   pub series : IsSeries n f
   pub small : Every (λ t. nat_abs t.1 < 2 ^ 127) f
 
 -- no exponent is above 2^16 in absolute value
-abbrev pub IsNear : Sum → Type 0
-IsNear f = Every (λ t. (nat_abs t.0.exp.a ≤ 2 ^ 16) × (nat_abs t.0.exp.b ≤ 2 ^ 16)) f
+abbrev pub HasNearTerms : Sum → Type 0
+HasNearTerms f = Every (λ t. (nat_abs t.0.exp.a ≤ largest_exponent) × (nat_abs t.0.exp.b ≤ largest_exponent)) f
 
 -- no exponent that f has is above 2^16 in absolute value
 abbrev pub HasNearKeys : Sum → Type 0
-HasNearKeys f = (k : Key) → coef f k ≢ pos 0 → (nat_abs k.exp.a ≤ 2 ^ 16) × (nat_abs k.exp.b ≤ 2 ^ 16)
+HasNearKeys f = (k : Key) → coef f k ≢ pos 0 → (nat_abs k.exp.a ≤ largest_exponent) × (nat_abs k.exp.b ≤ largest_exponent)
 
 -- what bounds the powers of f: those of |f|, or of 1/(2 - |f|)
 abbrev pub majorant_power : ℕ → Sum → ℤ → Sum
 majorant_power n f (pos i) = pow n (absolute f) i
 majorant_power n f (negsuc i) = pow n (geometric n f) (suc i)
+
+-- ---- what operations on series give, and the masses that bound them
+
+abbrev pub product_of : Seen → Seen → Sum
+product_of s t = mul s.order s.terms t.terms
+
+abbrev pub sum_mass : Seen → Seen → ℕ
+sum_mass s t = mass_to s.order s.terms + mass_to t.order t.terms
+
+abbrev pub product_mass : Seen → Seen → ℕ
+product_mass s t = mass_to s.order (mul s.order (absolute s.terms) (absolute t.terms))
+
+abbrev pub power_mass : Seen → ℤ → ℕ
+power_mass s i = mass_to s.order (majorant_power s.order s.terms i)

@@ -2,7 +2,10 @@
 // exact, or saturating at 2^126 + 1, where none is below 0.
 
 ghost use Rattle.std.specs.Prelude.{◌≡◌, ◌+ℤ◌, ◌*ℤ◌, ◌≤ℤ◌, neg_ℤ, ◌<◌, ◌+◌, ◌^◌, pos, min, nat_abs, ℤ};
+ghost use Rattle.limits.specs.Limits.{largest_weight};
 ghost use Rattle.trunc_series.specs.Arithmetic.{kept, IsKeepable};
+
+use limits::LARGEST_WEIGHT;
 
 #[derive(Clone, Copy)]
 pub enum Arithmetic {
@@ -11,7 +14,7 @@ pub enum Arithmetic {
 }
 
 /// 2^126 + 1.
-pub const LIMIT: i128 = (1 << 126) + 1;
+pub const LIMIT: i128 = LARGEST_WEIGHT as i128 + 1;
 
 pub fn sum(rule: Arithmetic, x: &i128, y: &i128) -> i128
     requires x { IsKeepable rule x.now }
@@ -45,7 +48,7 @@ pub fn absolute(x: &i128) -> i128
 /// A sum of masses as it is kept.
 pub fn total(mass: u128, x: &i128) -> u128
     requires { pos 0 ≤ℤ x.now }
-    ensures { result ≡ min (mass + nat_abs x.now) (2 ^ 126 + 1) }
+    ensures { result ≡ min (mass + nat_abs x.now) (largest_weight + 1) }
 {
     mass.saturating_add(*x as u128).min(LIMIT as u128)
 }

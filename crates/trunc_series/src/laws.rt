@@ -1,6 +1,6 @@
 // The laws of series of one order: of a commutative ring, and of the bounds that operations ask for.
 
-ghost use Rattle.trunc_series.specs.Laws.{SeriesIsDetermined, AdditionCommutes, AdditionIsAssociative, ZeroIsNeutral, NegativeCancels, MultiplicationCommutes, MultiplicationIsAssociative, OneIsNeutral, MultiplicationDistributes, ExponentsAdd, InverseCancels, SignedExponentsAdd, AdditionKeepsSame, MultiplicationKeepsSame, PowersKeepSame, SeriesHasLeastMass, SeriesStaysNear, SumsStayNear, MassesAdd, MassesMultiply, MajorantTestsProduct};
+ghost use Rattle.trunc_series.specs.Laws.{SeriesIsDetermined, AdditionCommutes, AdditionIsAssociative, ZeroIsNeutral, NegativeCancels, MultiplicationCommutes, MultiplicationIsAssociative, OneIsNeutral, MultiplicationDistributes, ExponentsAdd, InverseCancels, SignedExponentsAdd, AdditionKeepsSame, MultiplicationKeepsSame, PowersKeepSame, SeriesHasLeastMass, SeriesStaysNear, SumsStayNear, MassesAdd, MassesMultiply, MajorantTestsProduct, MajorantTestsPower, GeometricTestsNegativePower, MajorantHasGeometric};
 
 /// Series of one order are a commutative ring, modulo terms of degree above the order.
 ///
@@ -36,7 +36,11 @@ pub fn bounds_carry_over()
     ensures masses_multiply { MassesMultiply }
 {}
 
-/// How majorants test the condition of a product: by the mass of their product.
+/// How majorants test the condition of a product, by the mass of their product, and that of a power of
+/// either sign, by the mass of the majorant's power or of its geometric majorant's.
 pub fn majorants_test_masses()
-    ensures { MajorantTestsProduct }
+    ensures product { MajorantTestsProduct }
+    ensures power { MajorantTestsPower }
+    ensures negative_power { GeometricTestsNegativePower }
+    ensures geometric { MajorantHasGeometric }
 {}

@@ -11,12 +11,10 @@ mod merge;
 mod power;
 mod product;
 mod series;
+mod shared;
 pub mod sorted_terms;
 
 pub use key::{Exp, Key, compare, is_constant, times};
 pub use laws::{bounds_carry_over, majorants_test_masses, series_are_a_ring};
 pub use majorant::Majorant;
 pub use series::Series;
-
-#[cfg(test)]
-mod tests;

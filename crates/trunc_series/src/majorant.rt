@@ -1,11 +1,12 @@
 // Series with coefficients of at least 0, each kept as the lesser of its value and 2^126 + 1. They test
 // the conditions on masses that exact series have.
 
-ghost use Rattle.std.specs.Prelude.{◌≡◌, ◌≤◌, ◌+◌, ◌^◌, ◌⊎◌, ◌++◌, IfOk, min, pos};
-ghost use Rattle.scattering.specs.Series.{degree, coef, unit, rest, mul, pow, absolute, geometric, mass_to};
+ghost use Rattle.std.specs.Prelude.{◌≡◌, ◌≤◌, ◌+◌, ◌++◌, IfOk, min, pos};
+ghost use Rattle.limits.specs.Limits.{largest_weight};
+ghost use Rattle.scattering.specs.Series.{degree, coef, unit, rest, pow, absolute, geometric, mass_to};
 ghost use Rattle.scattering.specs.Collections.{Every};
-ghost use Rattle.trunc_series.specs.Shown.{sum_of, IsNear, HasNearKeys};
-ghost use Rattle.trunc_series.specs.Capped.{IsMajorant, IsMajorantOf};
+ghost use Rattle.trunc_series.specs.Shown.{sum_of, HasNearTerms, product_of};
+ghost use Rattle.trunc_series.specs.Capped.{IsMajorant, IsMajorantOf, IsPowerNear, geometric_series};
 
 use crate::arithmetic::{Arithmetic, LIMIT, total};
 use crate::key::Key;
@@ -37,6 +38,13 @@ impl Model for Majorant {
 }
 
 impl Majorant {
+    /// The highest degree of a term, as of the series that it bounds.
+    pub fn order(&self) -> u32
+        ensures { result ≡ self.now.order }
+    {
+        self.order
+    }
+
     /// The absolute values of a series' coefficients.
     pub fn of(f: &Series) -> Result<Majorant, AllocError>
         ensures { IfOk result (λ m. IsMajorantOf m f.now.order (absolute f.now.terms)) }
@@ -65,7 +73,7 @@ impl Majorant {
     /// 1/(2 - |f|), the sum of all powers of |f| - 1, of a series that is 1 and terms of degree at least 1.
     pub fn geometric_of(f: &Series) -> Result<Majorant, AllocError>
         requires others { Every (λ t. 1 ≤ degree t.0) (rest f.now.terms) }
-        requires near { IsNear f.now.terms }
+        requires near { HasNearTerms f.now.terms }
         ensures { IfOk result (λ m. IsMajorantOf m f.now.order (geometric f.now.order f.now.terms)) }
     {
         let alloc = f.allocator();
@@ -79,14 +87,7 @@ impl Majorant {
         })
     }
 
-    pub fn order(&self) -> u32
-        ensures { result ≡ self.now.order }
-    {
-        self.order
-    }
-
-    /// The terms, sorted by their keys: by the exponent's a, then its b, then the powers. No coefficient
-    /// is 0 and no key stands twice.
+    /// The terms, sorted as those of a series are. No coefficient is 0 and no key stands twice.
     pub fn terms(&self) -> &[(Key, i128)]
         ensures terms { sum_of result.now ≡ self.now.terms }
         ensures majorant { IsMajorant self.now.order self.now.terms }
@@ -111,9 +112,9 @@ impl Majorant {
     /// The product without terms of degree above the order.
     pub fn mul(&self, other: &Majorant) -> Result<Majorant, AllocError>
         requires order { other.now.order ≡ self.now.order }
-        requires near { IsNear self.now.terms }
-        requires near_too { IsNear other.now.terms }
-        ensures { IfOk result (λ m. IsMajorantOf m self.now.order (mul self.now.order self.now.terms other.now.terms)) }
+        requires near { HasNearTerms self.now.terms }
+        requires near_too { HasNearTerms other.now.terms }
+        ensures { IfOk result (λ m. IsMajorantOf m self.now.order (product_of self.now other.now)) }
     {
         let left = self.terms.as_slice();
         let right = other.terms.as_slice();
@@ -129,8 +130,8 @@ impl Majorant {
     pub fn geometric(&self) -> Result<Majorant, AllocError>
         requires constant { coef self.now.terms unit ≡ pos 1 }
         requires others { Every (λ t. 1 ≤ degree t.0) (rest self.now.terms) }
-        requires near { IsNear self.now.terms }
-        ensures { IfOk result (λ m. IsMajorantOf m self.now.order (geometric self.now.order self.now.terms)) }
+        requires near { HasNearTerms self.now.terms }
+        ensures { IfOk result (λ m. IsMajorantOf m self.now.order (geometric_series self.now)) }
     {
         let others = without_constant(self.alloc, self.terms.as_slice())?;
         let terms = powers_summed(
@@ -149,8 +150,8 @@ impl Majorant {
     /// The power without terms of degree above the order. Exponents are within 2^16, and so are those of the
     /// power, unless all terms but that of the constant key have degree at least 1.
     pub fn power(&self, n: u32) -> Result<Majorant, AllocError>
-        requires near { IsNear self.now.terms }
-        requires near_power { Every (λ t. 1 ≤ degree t.0) (rest self.now.terms) ⊎ HasNearKeys (pow self.now.order self.now.terms n) }
+        requires near { HasNearTerms self.now.terms }
+        requires near_power { IsPowerNear self.now n }
         ensures { IfOk result (λ m. IsMajorantOf m self.now.order (pow self.now.order self.now.terms n)) }
     {
         let terms = powered(
@@ -169,7 +170,7 @@ impl Majorant {
 
     /// The sum of the coefficients, or 2^126 + 1 where it is above that.
     pub fn mass(&self) -> u128
-        ensures { result ≡ min (mass_to self.now.order self.now.terms) (2 ^ 126 + 1) }
+        ensures { result ≡ min (mass_to self.now.order self.now.terms) (largest_weight + 1) }
     {
         let mut mass = 0;
         for t in self.terms.as_slice() {
@@ -181,10 +182,11 @@ impl Majorant {
     pub fn copy(&self) -> Result<Majorant, AllocError>
         ensures { IfOk result (λ m. m ≡ self.now) }
     {
+        let terms = Vec::from_slice(self.alloc, self.terms.as_slice())?;
         Ok(Majorant {
             alloc: self.alloc,
             order: self.order,
-            terms: Vec::from_slice(self.alloc, self.terms.as_slice())?,
+            terms,
         })
     }
 }

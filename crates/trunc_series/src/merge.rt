@@ -1,11 +1,11 @@
 // Sorted lists of terms made from lists of terms: like terms added, none with coefficient 0.
 
-ghost use Rattle.std.specs.Prelude.{◌++◌, ℕ, IfOk, OnOk, IsTrue, filter, nat_le, ◌≡◌, ◌↔◌};
+ghost use Rattle.std.specs.Prelude.{◌++◌, IfOk, OnOk, IsTrue, filter, nat_le, ◌≡◌, ◌↔◌};
 ghost use Rattle.scattering.specs.Collections.{Every, EveryPair};
-ghost use Rattle.scattering.specs.Series.{Sum, key_before, degree};
+ghost use Rattle.scattering.specs.Series.{key_before, degree};
 ghost use Rattle.trunc_series.specs.Shown.{key_of, term_of, sum_of, IsTerm};
 ghost use Rattle.trunc_series.specs.Arithmetic.{IsKeepable};
-ghost use Rattle.trunc_series.specs.Reduced.{IsReduced, absolute_sum, unless_zero};
+ghost use Rattle.trunc_series.specs.Reduced.{AddsUp, AreCollected, absolute_sum, unless_zero};
 
 use crate::Key;
 use crate::arithmetic::{Arithmetic, absolute, sum};
@@ -32,7 +32,7 @@ pub fn merged(
 ) -> Result<Vec<(Key, i128)>, AllocError>
     requires left { Every (λ t. IsKeepable rule t.1) (sum_of a.now) }
     requires right { Every (λ t. IsKeepable rule t.1) (sum_of b.now) }
-    ensures { IfOk result (λ r. (n : ℕ) (f g : Sum) → IsReduced rule n (sum_of a.now) f → IsReduced rule n (sum_of b.now) g → IsReduced rule n (sum_of r.items) (f ++ g)) }
+    ensures { IfOk result (λ r. AddsUp rule a.now b.now r.items) }
 {
     let mut out = Vec::with_capacity(alloc, a.len() + b.len())?;
     let mut i = 0;
@@ -69,7 +69,7 @@ pub fn collected(
     terms: &[(Key, i128)],
 ) -> Result<Vec<(Key, i128)>, AllocError>
     requires { Every (IsTerm order) (sum_of terms.now) }
-    ensures { IfOk result (λ r. IsReduced Arithmetic.Wrapping order (sum_of r.items) (sum_of terms.now)) }
+    ensures { IfOk result (λ r. AreCollected order terms.now r.items) }
 {
     if terms.len() < 2 {
         return Vec::from_slice(alloc, terms);

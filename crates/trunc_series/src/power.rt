@@ -1,10 +1,11 @@
 // Powers of sorted lists of terms, by squaring, and sums of all powers.
 
 ghost use Rattle.std.specs.Prelude.{◌≡◌, ◌≤◌, ◌<◌, ◌^◌, IfOk, filter, not, nat_abs};
+ghost use Rattle.limits.specs.Limits.{highest_order};
 ghost use Rattle.scattering.specs.Collections.{Every};
-ghost use Rattle.scattering.specs.Series.{one, pow, powers_to, key_eq, unit, minus, degree, rest, inverse};
-ghost use Rattle.trunc_series.specs.Shown.{key_of, sum_of, IsNear, IsValid};
-ghost use Rattle.trunc_series.specs.Reduced.{IsReduced, IsNearKey, IsTame, ArePowersNear};
+ghost use Rattle.scattering.specs.Series.{one, pow, key_eq, unit, minus, degree, rest};
+ghost use Rattle.trunc_series.specs.Shown.{key_of, sum_of, HasNearTerms, IsValid};
+ghost use Rattle.trunc_series.specs.Reduced.{IsKeptAs, IsNearKey, GrowsSlowly, ArePowersNear, SumsPowers, IsInversePower};
 
 use crate::arithmetic::{Arithmetic, opposite};
 use crate::key::{Key, is_constant};
@@ -29,11 +30,11 @@ pub fn powered(
     f: &[(Key, i128)],
     n: u32,
 ) -> Result<Vec<(Key, i128)>, AllocError>
-    requires order { order ≤ 24 }
-    requires reduced { IsReduced rule order (sum_of f.now) (sum_of f.now) }
+    requires order { order ≤ highest_order }
+    requires reduced { IsKeptAs rule order (sum_of f.now) (sum_of f.now) }
     requires near { Every (λ t. IsNearKey t.0) (sum_of f.now) }
     requires powers { ArePowersNear order (sum_of f.now) n }
-    ensures { IfOk result (λ r. IsReduced rule order (sum_of r.items) (pow order (sum_of f.now) n)) }
+    ensures { IfOk result (λ r. IsKeptAs rule order (sum_of r.items) (pow order (sum_of f.now) n)) }
 {
     if n == 0 {
         return one_term(alloc);
@@ -53,10 +54,10 @@ pub fn powers_summed(
     order: u32,
     g: &[(Key, i128)],
 ) -> Result<Vec<(Key, i128)>, AllocError>
-    requires order { order ≤ 24 }
-    requires reduced { IsReduced rule order (sum_of g.now) (sum_of g.now) }
-    requires tame { Every (λ t. IsTame t.0) (sum_of g.now) }
-    ensures { IfOk result (λ r. IsReduced rule order (sum_of r.items) (powers_to order (sum_of g.now) order)) }
+    requires order { order ≤ highest_order }
+    requires reduced { IsKeptAs rule order (sum_of g.now) (sum_of g.now) }
+    requires tame { Every (λ t. GrowsSlowly t.0) (sum_of g.now) }
+    ensures { IfOk result (λ r. SumsPowers rule order g.now r.items) }
 {
     let mut power = one_term(alloc)?;
     let mut total = one_term(alloc)?;
@@ -98,9 +99,9 @@ pub fn inverse_powered(
     n: u32,
 ) -> Result<Vec<(Key, i128)>, AllocError>
     requires valid { IsValid order (sum_of f.now) }
-    requires near { IsNear (sum_of f.now) }
+    requires near { HasNearTerms (sum_of f.now) }
     requires others { Every (λ t. 1 ≤ degree t.0) (rest (sum_of f.now)) }
-    ensures { IfOk result (λ r. IsReduced Arithmetic.Wrapping order (sum_of r.items) (pow order (inverse order (sum_of f.now)) n)) }
+    ensures { IfOk result (λ r. IsInversePower order f.now n r.items) }
 {
     let others = without_constant(alloc, f)?;
     let others = negated(alloc, others.as_slice())?;

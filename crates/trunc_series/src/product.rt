@@ -2,12 +2,13 @@
 // are merged two and two, so each term is handled once for each halving. Factors are taken degree by
 // degree, so that no pair is formed whose degree is above the order.
 
-ghost use Rattle.std.specs.Prelude.{◌≡◌, ◌≤◌, ◌+◌, ◌==◌, ℕ, [], ◌∷◌, IfOk, filter, map};
+ghost use Rattle.std.specs.Prelude.{◌≡◌, ◌≤◌, ◌==◌, [], ◌∷◌, IfOk, filter};
+ghost use Rattle.limits.specs.Limits.{highest_order};
 ghost use Rattle.scattering.specs.Collections.{Every};
-ghost use Rattle.scattering.specs.Series.{degree, mul, term_mul};
-ghost use Rattle.trunc_series.specs.Shown.{key_of, term_of, sum_of};
+ghost use Rattle.scattering.specs.Series.{degree};
+ghost use Rattle.trunc_series.specs.Shown.{key_of, sum_of};
 ghost use Rattle.trunc_series.specs.Arithmetic.{IsKeepable};
-ghost use Rattle.trunc_series.specs.Reduced.{IsReduced, IsFactor, IsNearKey, PairsFit, pairs};
+ghost use Rattle.trunc_series.specs.Reduced.{IsFactor, IsNearKey, PairsFit, RowFits, IsRow, IsSumOfRows, IsProduct};
 
 use crate::Key;
 use crate::arithmetic::{Arithmetic, product};
@@ -25,8 +26,8 @@ pub fn row(
     requires near { IsNearKey (key_of t.now.0) }
     requires keepable { IsKeepable rule t.now.1 }
     requires factor { IsFactor rule (sum_of b.now) }
-    requires degrees { Every (λ u. degree (key_of t.now.0) + degree u.0 ≤ 24) (sum_of b.now) }
-    ensures { IfOk result (λ r. (n : ℕ) → Every (λ u. degree (key_of t.now.0) + degree u.0 ≤ n) (sum_of b.now) → IsReduced rule n (sum_of r.items) (map (term_mul (term_of t.now)) (sum_of b.now))) }
+    requires degrees { RowFits highest_order t.now b.now }
+    ensures { IfOk result (λ r. IsRow rule t.now b.now r.items) }
 {
     let mut out = Vec::with_capacity(alloc, b.len())?;
     for u in b {
@@ -44,11 +45,11 @@ pub fn low_row(
     t: &(Key, i128),
     b: &[(Key, i128)],
 ) -> Result<Vec<(Key, i128)>, AllocError>
-    requires order { order ≤ 24 }
+    requires order { order ≤ highest_order }
     requires near { IsNearKey (key_of t.now.0) }
     requires keepable { IsKeepable rule t.now.1 }
     requires factor { IsFactor rule (sum_of b.now) }
-    ensures { IfOk result (λ r. IsReduced rule order (sum_of r.items) (mul order (term_of t.now ∷ []) (sum_of b.now))) }
+    ensures { IfOk result (λ r. IsProduct rule order (t.now ∷ []) b.now r.items) }
 {
     let degree = t.0.degree();
     let mut out = Vec::with_capacity(alloc, b.len())?;
@@ -70,8 +71,8 @@ pub fn rows(
 ) -> Result<Vec<(Key, i128)>, AllocError>
     requires left { IsFactor rule (sum_of a.now) }
     requires right { IsFactor rule (sum_of b.now) }
-    requires degrees { PairsFit 24 (sum_of a.now) (sum_of b.now) }
-    ensures { IfOk result (λ r. (n : ℕ) → PairsFit n (sum_of a.now) (sum_of b.now) → IsReduced rule n (sum_of r.items) (pairs (sum_of a.now) (sum_of b.now))) }
+    requires degrees { PairsFit highest_order (sum_of a.now) (sum_of b.now) }
+    ensures { IfOk result (λ r. IsSumOfRows rule a.now b.now r.items) }
 {
     match a {
         [] => Ok(Vec::new(alloc)),
@@ -101,11 +102,11 @@ pub fn multiplied(
     a: &[(Key, i128)],
     b: &[(Key, i128)],
 ) -> Result<Vec<(Key, i128)>, AllocError>
-    requires order { order ≤ 24 }
+    requires order { order ≤ highest_order }
     requires left { IsFactor rule (sum_of a.now) }
     requires right { IsFactor rule (sum_of b.now) }
     requires low { Every (λ t. degree t.0 ≤ order) (sum_of a.now) }
-    ensures { IfOk result (λ r. IsReduced rule order (sum_of r.items) (mul order (sum_of a.now) (sum_of b.now))) }
+    ensures { IfOk result (λ r. IsProduct rule order a.now b.now r.items) }
 {
     let mut out = Vec::new(alloc);
     for d in 0..order + 1 {

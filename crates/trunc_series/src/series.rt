@@ -1,9 +1,10 @@
 // Series with exact coefficients.
 
 ghost use Rattle.std.specs.Prelude.{◌≡◌, ◌≢◌, ◌≤◌, ◌<◌, ◌+◌, ◌^◌, [], ◌∷◌, ◌++◌, pos, nat_abs, IfOk, IsTrue, ◌↔◌};
+ghost use Rattle.limits.specs.Limits.{highest_order, largest_weight};
 ghost use Rattle.scattering.specs.Collections.{Every, EveryPair};
-ghost use Rattle.scattering.specs.Series.{one, unit, degree, rest, coef, cut, mul, power, absolute, mass_to};
-ghost use Rattle.trunc_series.specs.Shown.{key_of, sum_of, IsTerm, IsSeriesOf, IsValid, IsNear, majorant_power};
+ghost use Rattle.scattering.specs.Series.{one, unit, degree, rest, coef, cut, power};
+ghost use Rattle.trunc_series.specs.Shown.{key_of, sum_of, IsTerm, IsSeriesOf, IsValid, HasNearTerms, product_of, sum_mass, product_mass, power_mass};
 
 use crate::arithmetic::Arithmetic;
 use crate::key::{Key, compare};
@@ -36,7 +37,7 @@ impl Model for Series {
 impl Series {
     /// 0, with no term.
     pub fn zero(alloc: Global, order: u32) -> Result<Series, AllocError>
-        requires { order ≤ 24 }
+        requires { order ≤ highest_order }
         ensures { IfOk result (λ s. IsSeriesOf s order []) }
     {
         let terms = Vec::new(alloc);
@@ -49,7 +50,7 @@ impl Series {
 
     /// 1, the term at the constant key.
     pub fn one(alloc: Global, order: u32) -> Result<Series, AllocError>
-        requires { order ≤ 24 }
+        requires { order ≤ highest_order }
         ensures { IfOk result (λ s. IsSeriesOf s order one) }
     {
         Series::monomial(alloc, order, Key::ONE, 1)
@@ -58,8 +59,8 @@ impl Series {
     /// The series with the term of `key` and `c`, or 0 where `c` is 0 or the key's degree is above the
     /// order.
     pub fn monomial(alloc: Global, order: u32, key: Key, c: i128) -> Result<Series, AllocError>
-        requires order { order ≤ 24 }
-        requires coefficient { nat_abs c ≤ 2 ^ 126 }
+        requires order { order ≤ highest_order }
+        requires coefficient { nat_abs c ≤ largest_weight }
         ensures { IfOk result (λ s. IsSeriesOf s order (cut order ((key_of key, c) ∷ []))) }
     {
         let mut terms = Vec::new(alloc);
@@ -80,7 +81,7 @@ impl Series {
         order: u32,
         terms: &[(Key, i128)],
     ) -> Result<Series, AllocError>
-        requires order { order ≤ 24 }
+        requires order { order ≤ highest_order }
         requires distinct { EveryPair (λ t u. t.0 ≢ u.0) (sum_of terms.now) }
         requires each { Every (IsTerm order) (sum_of terms.now) }
         ensures { IfOk result (λ s. IsSeriesOf s order (sum_of terms.now)) }
@@ -145,7 +146,7 @@ impl Series {
 
     pub fn add(&self, other: &Series) -> Result<Series, AllocError>
         requires order { other.now.order ≡ self.now.order }
-        requires mass { mass_to self.now.order self.now.terms + mass_to other.now.order other.now.terms ≤ 2 ^ 126 }
+        requires mass { sum_mass self.now other.now ≤ largest_weight }
         ensures { IfOk result (λ s. IsSeriesOf s self.now.order (self.now.terms ++ other.now.terms)) }
     {
         let left = self.terms.as_slice();
@@ -161,10 +162,10 @@ impl Series {
     /// The product without terms of degree above the order.
     pub fn mul(&self, other: &Series) -> Result<Series, AllocError>
         requires order { other.now.order ≡ self.now.order }
-        requires near { IsNear self.now.terms }
-        requires near_too { IsNear other.now.terms }
-        requires mass { mass_to self.now.order (mul self.now.order (absolute self.now.terms) (absolute other.now.terms)) ≤ 2 ^ 126 }
-        ensures { IfOk result (λ s. IsSeriesOf s self.now.order (mul self.now.order self.now.terms other.now.terms)) }
+        requires near { HasNearTerms self.now.terms }
+        requires near_too { HasNearTerms other.now.terms }
+        requires mass { product_mass self.now other.now ≤ largest_weight }
+        ensures { IfOk result (λ s. IsSeriesOf s self.now.order (product_of self.now other.now)) }
     {
         let left = self.terms.as_slice();
         let right = other.terms.as_slice();
@@ -181,8 +182,8 @@ impl Series {
     pub fn power(&self, n: i32) -> Result<Series, AllocError>
         requires constant { coef self.now.terms unit ≡ pos 1 }
         requires others { Every (λ t. 1 ≤ degree t.0) (rest self.now.terms) }
-        requires near { IsNear self.now.terms }
-        requires mass { mass_to self.now.order (majorant_power self.now.order self.now.terms n) ≤ 2 ^ 126 }
+        requires near { HasNearTerms self.now.terms }
+        requires mass { power_mass self.now n ≤ largest_weight }
         ensures { IfOk result (λ s. IsSeriesOf s self.now.order (power self.now.order self.now.terms n)) }
     {
         let f = self.terms.as_slice();

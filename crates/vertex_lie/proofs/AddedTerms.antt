@@ -9,7 +9,7 @@ use Rattle.frac_128.specs.declared.Fraction.{Fraction}
 use Rattle.frac_128.specs.Quotient.{AreEqual, SumFits}
 use Rattle.trunc_series.specs.Shown.{key_of}
 use Rattle.vertex_lie.specs.Shown.{ratio_of, coefficient_of, lie_of, Ascends}
-use Rattle.vertex_lie.specs.RationalBracket.{IsAdded, AddFits, SumsFit, values_at, zero_ratio}
+use Rattle.vertex_lie.specs.RationalBracket.{IsSumWith, AddFits, SumsFit, values_at, zero_ratio}
 use Rattle.std.specs.Ordering.{is_lt}
 use Rattle.std.specs.declared.cmp.Ordering.{Ordering}
 use Rattle.trunc_series.specs.Reduced.{key_order}
@@ -36,10 +36,10 @@ module _ (out : List Item) (s t : Item) (r : Rises (lie_of (out ++ s ∷ []))) w
   rises = subst Rises (lie_of-append out (s ∷ [])) r
 
   module _ (b : key_before (key_of s.0) (key_of t.0) ≡ true) where
-    pub step-after : IsAdded (coefficient_of t) (lie_of (out ++ s ∷ [])) (lie_of ((out ++ s ∷ []) ++ t ∷ []))
+    pub step-after : IsSumWith (coefficient_of t) (lie_of (out ++ s ∷ [])) (lie_of ((out ++ s ∷ []) ++ t ∷ []))
     step-after =
-        subst (λ (h : Lie). IsAdded (coefficient_of t) (lie_of (out ++ s ∷ [])) h) (sym (lie_of-append (out ++ s ∷ []) (t ∷ [])))
-        (subst (λ (h : Lie). IsAdded (coefficient_of t) h (h ++ coefficient_of t ∷ [])) (sym split) (added-after (lie_of out) (coefficient_of s) (coefficient_of t) rises b))
+        subst (λ (h : Lie). IsSumWith (coefficient_of t) (lie_of (out ++ s ∷ [])) h) (sym (lie_of-append (out ++ s ∷ []) (t ∷ [])))
+        (subst (λ (h : Lie). IsSumWith (coefficient_of t) h (h ++ coefficient_of t ∷ [])) (sym split) (added-after (lie_of out) (coefficient_of s) (coefficient_of t) rises b))
 
     pub fits-after : FitsSigned w128 t.1.num → FitsSigned w128 t.1.den → FitsSigned w128 (pos 0) → AddFits (ratio_at (lie_of (out ++ s ∷ [])) (key_of t.0)) (ratio_of t.1)
     fits-after f g h =
@@ -47,10 +47,10 @@ module _ (out : List Item) (s t : Item) (r : Rises (lie_of (out ++ s ∷ []))) w
         (add-zero (ratio_of t.1) (fraction-ratio t.1) f g h)
 
   module _ (e : key_of s.0 ≡ key_of t.0) where
-    pub step-onto : (total : Fraction) → AreEqual total.num total.den (s.1.num *ℤ t.1.den +ℤ t.1.num *ℤ s.1.den) (s.1.den *ℤ t.1.den) → IsAdded (coefficient_of t) (lie_of (out ++ s ∷ [])) (lie_of (out ++ (s.0, total) ∷ []))
+    pub step-onto : (total : Fraction) → AreEqual total.num total.den (s.1.num *ℤ t.1.den +ℤ t.1.num *ℤ s.1.den) (s.1.den *ℤ t.1.den) → IsSumWith (coefficient_of t) (lie_of (out ++ s ∷ [])) (lie_of (out ++ (s.0, total) ∷ []))
     step-onto total a =
-        subst (λ (h : Lie). IsAdded (coefficient_of t) (lie_of (out ++ s ∷ [])) h) (sym (lie_of-append out ((s.0, total) ∷ [])))
-        (subst (λ (h : Lie). IsAdded (coefficient_of t) h (lie_of out ++ coefficient_of (s.0, total) ∷ [])) (sym split) (added-to_last (lie_of out) (coefficient_of s) (coefficient_of t) rises e (ratio_of total) a))
+        subst (λ (h : Lie). IsSumWith (coefficient_of t) (lie_of (out ++ s ∷ [])) h) (sym (lie_of-append out ((s.0, total) ∷ [])))
+        (subst (λ (h : Lie). IsSumWith (coefficient_of t) h (lie_of out ++ coefficient_of (s.0, total) ∷ [])) (sym split) (added-to_last (lie_of out) (coefficient_of s) (coefficient_of t) rises e (ratio_of total) a))
 
     own : ratio_at (lie_of (out ++ s ∷ [])) (key_of t.0) ≡ ratio_of s.1
     own = ap (λ (l : Lie). ratio_at l (key_of t.0)) split ∙ last-is (lie_of out) (coefficient_of s) (coefficient_of t) rises e
@@ -73,7 +73,7 @@ module _ (a out out' : List Item) (s s' d : Item) (i : ℕ) (l : i < length a) (
   left : Every (λ t. IsRatio t.1) (coefficient_of (get_or a i d) ∷ lie_of (drop (i + 1) a))
   left = subst (Every (λ t. IsRatio t.1)) (lie_of-drop d a i l) (ratios-lowest (drop i a))
 
-  pub next-running : IsAdded (coefficient_of (get_or a i d)) (lie_of (out ++ s ∷ [])) (lie_of (out' ++ s' ∷ [])) → AddFits (ratio_at (lie_of (out ++ s ∷ [])) (key_of (get_or a i d).0)) (ratio_of (get_or a i d).1)
+  pub next-running : IsSumWith (coefficient_of (get_or a i d)) (lie_of (out ++ s ∷ [])) (lie_of (out' ++ s' ∷ [])) → AddFits (ratio_at (lie_of (out ++ s ∷ [])) (key_of (get_or a i d).0)) (ratio_of (get_or a i d).1)
       → IsRunning (lie_of (out' ++ s' ∷ [])) (lie_of (drop (i + 1) a)) (lie_of a)
   next-running n f = runs (lie_of (out ++ s ∷ [])) (lie_of (out' ++ s' ∷ [])) (lie_of (drop (i + 1) a)) (lie_of a) (coefficient_of (get_or a i d)) (ratios-lowest (out ++ s ∷ [])) (ratios-lowest (out' ++ s' ∷ [])) left here n f
 
@@ -82,8 +82,8 @@ module _ (a out out' : List Item) (s s' d : Item) (i : ℕ) (l : i < length a) (
   onward-here f = onward-first (lie_of (out ++ s ∷ [])) (lie_of (out ++ s ∷ [])) (lie_of (drop (i + 1) a)) (lie_of a) (coefficient_of (get_or a i d)) (ratios-lowest (out ++ s ∷ [])) (ratios-lowest (out ++ s ∷ [])) left here f
 
 -- a term as it was read
-pub read-added : (out out' : List Item) (s s' t u : Item) → t ≡ u → IsAdded (coefficient_of t) (lie_of (out ++ s ∷ [])) (lie_of (out' ++ s' ∷ [])) → IsAdded (coefficient_of u) (lie_of (out ++ s ∷ [])) (lie_of (out' ++ s' ∷ []))
-read-added out out' s s' t u e h = subst (λ (x : Item). IsAdded (coefficient_of x) (lie_of (out ++ s ∷ [])) (lie_of (out' ++ s' ∷ []))) e h
+pub read-added : (out out' : List Item) (s s' t u : Item) → t ≡ u → IsSumWith (coefficient_of t) (lie_of (out ++ s ∷ [])) (lie_of (out' ++ s' ∷ [])) → IsSumWith (coefficient_of u) (lie_of (out ++ s ∷ [])) (lie_of (out' ++ s' ∷ []))
+read-added out out' s s' t u e h = subst (λ (x : Item). IsSumWith (coefficient_of x) (lie_of (out ++ s ∷ [])) (lie_of (out' ++ s' ∷ []))) e h
 
 pub read-fits : (out : List Item) (s t u : Item) → t ≡ u → AddFits (ratio_at (lie_of (out ++ s ∷ [])) (key_of t.0)) (ratio_of t.1) → AddFits (ratio_at (lie_of (out ++ s ∷ [])) (key_of u.0)) (ratio_of u.1)
 read-fits out s t u e h = subst (λ (x : Item). AddFits (ratio_at (lie_of (out ++ s ∷ [])) (key_of x.0)) (ratio_of x.1)) e h

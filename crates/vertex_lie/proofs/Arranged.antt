@@ -17,7 +17,8 @@ use Rattle.trunc_series.specs.declared.key.Key.{Key as CodeKey}
 use Rattle.trunc_series.specs.Shown.{key_of}
 use Rattle.trunc_series.specs.Reduced.{key_order}
 use Rattle.scattering.proofs.KeyOrder.{key_before-same, key_before-trans, key_before-irrefl}
-use Rattle.trunc_series.proofs.Coefficients.{apart}
+use Rattle.scattering.proofs.Lists.{not-out}
+use Rattle.scattering.proofs.StrictOrders.{apart}
 use Rattle.vertex_lie.specs.Shown.{coefficient_of, lie_of, of_key, Ascends, IsElement, IsElementOf, IsArranged}
 use Rattle.vertex_lie.proofs.OfKey.{Every-same, one-of_key, rises-ascending, ratio_at-same}
 
@@ -63,10 +64,6 @@ not-greater k l = go (key_before k l) (key_before l k) refl refl
     go true false d e = refl
     go false true d e = refl
     go false false d e = refl
-
-was-not : (b : Bool) → not b ≡ true → b ≡ false
-was-not true e = absurd (cc)
-was-not false e = refl
 
 -- ---- ties are equal keys
 
@@ -116,7 +113,7 @@ ratios-lowest (t ∷ xs) = (record { below = t.1.lowest.positive; lowest = t.1.l
 -- terms found in order are arranged
 pub found-arranged : (xs ys : List Item) (r : Bool) → xs ≡ ys → IsAllAdjacentAnswer (λ t u b. b ≡ not (item_before u t)) xs r → r ≡ true → IsArranged (lie_of ys) (lie_of ys)
 found-arranged xs ys false e h q = absurd (cc)
-found-arranged xs ys true e h q = subst (λ (s : List Item). IsArranged (lie_of s) (lie_of s)) e (record { ascends = ascends-all xs (λ k d l. was-not (item_before (get_or xs (k + 1) d) (get_or xs k d)) (sym (h k d l))); stable = λ k. refl })
+found-arranged xs ys true e h q = subst (λ (s : List Item). IsArranged (lie_of s) (lie_of s)) e (record { ascends = ascends-all xs (λ k d l. not-out (item_before (get_or xs (k + 1) d) (get_or xs k d)) (sym (h k d l))); stable = λ k. refl })
 
 -- terms that were sorted are arranged
 pub sorted-arranged : (xs ys : List Item) → ((k : ℕ) (d : Item) → k + 1 < length ys → item_before (get_or ys (k + 1) d) (get_or ys k d) ≡ false) → IsStableBy item_before xs ys → IsArranged (lie_of ys) (lie_of xs)

@@ -4,15 +4,16 @@ use Rattle.std.specs.Prelude.{ℤ, pos, ◌*ℤ◌, IsTrue, map, filter, not}
 use Rattle.std.proofs.lemmas.Int.{ints}
 use Rattle.sum_algebra.proofs.Ring.{nought, unit, ring}
 use Rattle.sum_algebra.proofs.IntegerRing.{ints_ring, ◌:*◌, X}
+use Rattle.sum_algebra.proofs.Integers.{positive-mul}
 use Rattle.scattering.specs.Collections.{Every, EveryPair}
 use Rattle.scattering.specs.Series.{Key, origin, int_eq, key_eq, key_before}
 use Rattle.scattering.specs.Correction.{Ratio, IsRatio, Lie, ratio_at}
 use Rattle.scattering.proofs.Keys.{key_eq-same, int_eq-same}
+use Rattle.scattering.proofs.Lists.{Every-implies, Every-append}
+use Rattle.scattering.proofs.StrictOrders.{apart}
 use Rattle.completion_theory.proofs.UniqueCorrection.{ratio-is}
-use Rattle.frac_128.proofs.Lowest.{positive-mul}
-use Rattle.trunc_series.proofs.Coefficients.{Every-weaker, Every-append, apart}
 use Rattle.vertex_lie.specs.Shown.{of_key, coefficient_of, lie_of, IsArranged}
-use Rattle.vertex_lie.specs.RationalBracket.{AreSame, product, is_kept, row, products, RowFits, zero_ratio, sum_from, SumsFit, values_at, AreValues, IsSummed, IsBracketOf, BracketFits}
+use Rattle.vertex_lie.specs.RationalBracket.{AreSame, term_product, is_kept, row, products, RowProductsFit, zero_ratio, sum_from, SumsFit, values_at, AreValues, IsSummed, IsBracketOf, BracketFits}
 use Rattle.vertex_lie.proofs.OfKey.{Every-same}
 use Rattle.vertex_lie.proofs.Arranged.{Item}
 use Rattle.vertex_lie.proofs.EqualRatios.{Positive, AllPositive, AllSame, same-trans, sum-same, sum-positive, sums-same}
@@ -52,7 +53,7 @@ pub products-positive : (n : ℕ) (f g : Lie) → Every (λ t. IsRatio t.1) f �
 products-positive n [] g r s = tt
 products-positive n (t ∷ f) g r s =
     Every-append (λ t. Positive t.1) (row n t g) (products n f g)
-    (row-every (λ t. Positive t.1) n t g (Every-weaker (λ (u : Coefficient). IsRatio u.1) (λ u. is_kept n t.0 u.0 ≡ true → Positive (product t u).1) g (λ u i k. positive-mul t.1.den u.1.den r.0.below i.below) s))
+    (row-every (λ t. Positive t.1) n t g (Every-implies (λ (u : Coefficient). IsRatio u.1) (λ u. is_kept n t.0 u.0 ≡ true → Positive (term_product t u).1) g (λ u i k. positive-mul t.1.den u.1.den r.0.below i.below) s))
     (products-positive n f g r.1 s)
 
 -- ---- without terms that are 0
@@ -99,7 +100,7 @@ ratio-kept [] r k = refl
 ratio-kept (t ∷ h) r k = go (is_nonzero t) (key_eq t.0 k) refl refl (ratio-kept h r.1 k)
   where
     others : key_eq t.0 k ≡ true → Every (λ u. key_eq u.0 k ≡ false) (filter is_nonzero h)
-    others e = every-kept (λ u. key_eq u.0 k ≡ false) h (Every-weaker (λ (u : Coefficient). IsTrue (key_before t.0 u.0)) (λ u. key_eq u.0 k ≡ false) h (λ u b. apart k u.0 (subst (λ (l : Key). key_before l u.0 ≡ true) (key_eq-same t.0 k e) b)) r.0)
+    others e = every-kept (λ u. key_eq u.0 k ≡ false) h (Every-implies (λ (u : Coefficient). IsTrue (key_before t.0 u.0)) (λ u. key_eq u.0 k ≡ false) h (λ u b. apart k u.0 (subst (λ (l : Key). key_before l u.0 ≡ true) (key_eq-same t.0 k e) b)) r.0)
 
     go : (b c : Bool) → is_nonzero t ≡ b → key_eq t.0 k ≡ c → AreSame (ratio_at (filter is_nonzero h) k) (ratio_at h k) → AreSame (ratio_at (cond b (t ∷ filter is_nonzero h) (filter is_nonzero h)) k) (cond c t.1 (ratio_at h k))
     go true true e f i = rw f refl
@@ -133,7 +134,7 @@ module _ (n : ℕ) (f g made sorted : Lie) (rf : Every (λ t. IsRatio t.1) f) (r
   sums-fit b k = sums-same zero_ratio zero_ratio (values_at k (products n f g)) (values_at k sorted) one-positive (values-positive sorted rs k) refl (alike k) (b.sums k)
 
   module _ (h : Lie) (rh : Every (λ t. IsRatio t.1) h) (s : IsSummed sorted h) where
-    pub bracket-fits : Every (λ t. RowFits n t g) f → BracketFits n f g
+    pub bracket-fits : Every (λ t. RowProductsFit n t g) f → BracketFits n f g
     bracket-fits p = record { pairs = p; sums = λ k. sums-same zero_ratio zero_ratio (values_at k sorted) (values_at k (products n f g)) one-positive (products-at k) refl (all-flip _ _ (alike k)) (s.fits k) }
 
     moves : Every (λ t. t.0.exp ≢ origin) h

@@ -9,12 +9,13 @@ use Rattle.scattering.specs.Collections.{Every, EveryPair}
 use Rattle.scattering.specs.Series.{Exp, Key, Sum, key_eq, key_before, origin, int_eq, coef}
 use Rattle.scattering.specs.Correction.{IsRatio, Lie, ratio_at}
 use Rattle.scattering.proofs.Keys.{key_eq-same}
+use Rattle.scattering.proofs.Pairing.{skip-zero}
 use Rattle.plane_theory.proofs.Directions.{cancel, positive-not}
 use Rattle.frac_128.specs.declared.Fraction.{Fraction}
 use Rattle.frac_128.specs.Quotient.{AreEqual}
 use Rattle.trunc_series.specs.declared.key.Key.{Key as CodeKey}
 use Rattle.trunc_series.specs.Shown.{key_of, sum_of}
-use Rattle.trunc_series.proofs.Coefficients.{Apart, coef-none_at, add-zero, skip-zero}
+use Rattle.trunc_series.proofs.Coefficients.{Apart, coef-none_at, add-zero}
 use Rattle.trunc_series.proofs.Terms.{at, sum_of-drop}
 use Rattle.vertex_lie.specs.Shown.{coefficient_of, lie_of}
 use Rattle.vertex_lie.specs.Leading.{turn, AreQuotients}

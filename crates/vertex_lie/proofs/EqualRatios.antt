@@ -7,10 +7,11 @@ use Rattle.std.proofs.Math.Nat.{one-dvd}
 use Rattle.std.proofs.lemmas.Int.{ints}
 use Rattle.sum_algebra.proofs.Ring.{var, nought, unit, ring}
 use Rattle.sum_algebra.proofs.IntegerRing.{ints_ring, ◌:+◌, ◌:*◌, X, Y, Z, W}
+use Rattle.sum_algebra.proofs.Integers.{positive-mul}
 use Rattle.scattering.specs.Correction.{Ratio, IsRatio}
 use Rattle.plane_theory.proofs.Directions.{cancel, positive-not}
 use Rattle.frac_128.specs.Quotient.{IsLowest, AreEqual, SumFits, LowestFits}
-use Rattle.frac_128.proofs.Lowest.{positive-mul, lowest-unique}
+use Rattle.frac_128.proofs.Lowest.{lowest-unique}
 use Rattle.frac_128.proofs.Sum.{sum-suffices}
 use Rattle.vertex_lie.specs.RationalBracket.{AreSame, plus, zero_ratio, sum_from, AddFits, SumsFit}
 

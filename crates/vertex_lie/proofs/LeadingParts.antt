@@ -8,12 +8,14 @@ use Rattle.scattering.specs.Collections.{Every}
 use Rattle.scattering.specs.Series.{Exp, Key, Term, Sum, Same, key_mul, z, degree, det, origin, int_eq, exp_eq, coef}
 use Rattle.scattering.specs.LocalProduct.{axis_x, axis_y}
 use Rattle.scattering.specs.Correction.{IsRatio, Lie, ratio_at}
+use Rattle.scattering.proofs.Lists.{Every-implies, Every-append}
+use Rattle.scattering.proofs.Pairing.{coef-append}
 use Rattle.plane_theory.proofs.Directions.{cancel, positive-not}
 use Rattle.completion_theory.proofs.UniqueCorrection.{same-element, IsTold, ratio-is}
 use Rattle.trunc_series.specs.declared.arithmetic.Arithmetic.TheVariants.{Wrapping}
 use Rattle.trunc_series.specs.Shown.{IsValid}
-use Rattle.trunc_series.specs.Reduced.{IsReduced}
-use Rattle.trunc_series.proofs.Coefficients.{Every-weaker, Every-append, coef-append, coef-has, has-coef, apart-rising}
+use Rattle.trunc_series.specs.Reduced.{IsKeptAs}
+use Rattle.trunc_series.proofs.Coefficients.{coef-has, has-coef, apart-rising}
 use Rattle.trunc_series.proofs.Exact.{own, exact-same}
 use Rattle.trunc_series.proofs.PowerLaws.{reduced-keys}
 use Rattle.vertex_lie.specs.declared.leading_part.Axis.TheVariants.{X as AxisX, Y as AxisY}
@@ -74,11 +76,11 @@ picked true true false x y h k = omega (arith, ints, k)
 picked true false q x y h k = omega (arith, ints, h)
 
 module _ (l m : ℕ) (x y : Sum) (v : IsValid l x) (w : IsValid m y) (n : ℕ) (r : Sum) (h : Lie)
-    (made : (o : ℕ) (f g : Sum) → IsReduced Wrapping o (read_from n AxisX x) f → IsReduced Wrapping o (read_from n AxisY y) g → IsReduced Wrapping o r (f ++ g)) where
+    (made : (o : ℕ) (f g : Sum) → IsKeptAs Wrapping o (read_from n AxisX x) f → IsKeptAs Wrapping o (read_from n AxisY y) g → IsKeptAs Wrapping o r (f ++ g)) where
   read : Sum
   read = read_from n AxisX x ++ read_from n AxisY y
 
-  reduced : IsReduced Wrapping n r (read_from n AxisX x ++ read_from n AxisY y)
+  reduced : IsKeptAs Wrapping n r (read_from n AxisX x ++ read_from n AxisY y)
   reduced = made n _ _ (own n _ (read-series n AxisX l x v.series) (read-small n AxisX x v.small)) (own n _ (read-series n AxisY m y w.series) (read-small n AxisY y w.small))
 
   both : (k : Key) → coef (read_from n AxisX x ++ read_from n AxisY y) k ≡ cond (is_shown n AxisX k) (coef x (key_mul k (z axis_x))) (pos 0) +ℤ cond (is_shown n AxisY k) (coef y (key_mul k (z axis_y))) (pos 0)
@@ -114,7 +116,7 @@ module _ (l m : ℕ) (x y : Sum) (v : IsValid l x) (w : IsValid m y) (n : ℕ) (
     pub part-element : IsElement h
     part-element = record {
       rises = quotients-rise turn r h q reduced.series.rises;
-      exponents = quotients-keys turn (λ k. k.exp ≢ origin) r h q (Every-weaker (λ (t : Term). (degree t.0 ≡ n) × (t.0.exp ≢ origin)) (λ t. t.0.exp ≢ origin) r (λ t e. e.1) keys);
+      exponents = quotients-keys turn (λ k. k.exp ≢ origin) r h q (Every-implies (λ (t : Term). (degree t.0 ≡ n) × (t.0.exp ≢ origin)) (λ t. t.0.exp ≢ origin) r (λ t e. e.1) keys);
       nonzero = quotients-nonzero turn r h q ratios reduced.series.nonzero;
       ratios = ratios;
     }

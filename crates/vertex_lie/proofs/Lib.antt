@@ -10,7 +10,6 @@ pub mod AddedTerms
 pub mod Faults
 pub mod Bracketed
 pub mod UniqueElement
-pub mod WorkedImages
 pub mod ScaledBracket
 pub mod StatedLaws
 pub mod Logarithms

@@ -6,8 +6,8 @@ use Rattle.scattering.specs.Series.{Key, key_eq, key_before}
 use Rattle.scattering.specs.Correction.{Ratio, Lie, ratio_at}
 use Rattle.scattering.proofs.Keys.{key_eq-same, key_eq-refl}
 use Rattle.scattering.proofs.KeyOrder.{key_before-same, key_before-trans, key_before-irrefl}
+use Rattle.scattering.proofs.Lists.{Every-implies}
 use Rattle.vertex_lie.specs.Shown.{of_key, Ascends}
-use Rattle.trunc_series.proofs.Coefficients.{Every-weaker}
 
 module _ {A : Type 0} where
   of_key-own : (t : Key × A) (h : List (Key × A)) → of_key t.0 (t ∷ h) ≡ t ∷ of_key t.0 h
@@ -83,11 +83,11 @@ module _ {A : Type 0} where
       first = go (key_before t.0 u.0) refl
 
       joined : EveryPair (λ v w. IsTrue (key_before v.0 w.0)) (u ∷ h) → EveryPair (λ v w. IsTrue (key_before v.0 w.0)) (t ∷ u ∷ h)
-      joined r = ((first, Every-weaker (λ (v : Key × A). IsTrue (key_before u.0 v.0)) (λ v. IsTrue (key_before t.0 v.0)) h (λ v b. key_before-trans t.0 u.0 v.0 first b) r.0), r)
+      joined r = ((first, Every-implies (λ (v : Key × A). IsTrue (key_before u.0 v.0)) (λ v. IsTrue (key_before t.0 v.0)) h (λ v b. key_before-trans t.0 u.0 v.0 first b) r.0), r)
 
   pub distinct-rising : (h : List (Key × A)) → EveryPair (λ t u. IsTrue (key_before t.0 u.0)) h → EveryPair (λ t u. t.0 ≢ u.0) h
   distinct-rising [] r = tt
-  distinct-rising (t ∷ h) r = (Every-weaker (λ (u : Key × A). IsTrue (key_before t.0 u.0)) (λ u. t.0 ≢ u.0) h (λ u b e. later u b e) r.0, distinct-rising h r.1)
+  distinct-rising (t ∷ h) r = (Every-implies (λ (u : Key × A). IsTrue (key_before t.0 u.0)) (λ u. t.0 ≢ u.0) h (λ u b e. later u b e) r.0, distinct-rising h r.1)
     where
       later : (u : Key × A) → key_before t.0 u.0 ≡ true → t.0 ≢ u.0
       later u b e = let c : key_before t.0 t.0 ≡ true = subst (λ (l : Key). key_before t.0 l ≡ true) (sym e) b in let d = key_before-irrefl t.0 in absurd (cc)

@@ -5,16 +5,16 @@ use Rattle.std.proofs.lemmas.Int.{ints}
 use Rattle.std.proofs.lemmas.List.{drop_all, append-nil}
 use Rattle.sum_algebra.proofs.Ring.{nought, unit, ring}
 use Rattle.sum_algebra.proofs.IntegerRing.{ints_ring, ◌:+◌, ◌:*◌, ◌:-◌, X, Y, Z, W}
+use Rattle.sum_algebra.proofs.Integers.{positive-mul}
 use Rattle.scattering.specs.Collections.{Every}
 use Rattle.scattering.specs.Series.{Exp, Key, key_mul, det, degree, origin, int_eq, exp_add}
 use Rattle.scattering.specs.Correction.{Ratio, IsRatio, Lie}
-use Rattle.trunc_series.proofs.Coefficients.{Every-append}
+use Rattle.scattering.proofs.Lists.{Every-append}
 use Rattle.vertex_lie.specs.Shown.{coefficient_of, lie_of}
-use Rattle.vertex_lie.specs.RationalBracket.{AreSame, product, is_kept, row, products, kept_product, AreValues, Appends}
+use Rattle.vertex_lie.specs.RationalBracket.{AreSame, term_product, is_kept, row, products, kept_product, AreValues, Appends}
 use Rattle.vertex_lie.proofs.Arranged.{Item}
 use Rattle.vertex_lie.proofs.EqualRatios.{Positive, equal-through, lowest-same}
 use Rattle.frac_128.specs.Quotient.{AreEqual, LowestFits}
-use Rattle.frac_128.proofs.Lowest.{positive-mul}
 
 -- ---- lists of the program
 
@@ -46,15 +46,15 @@ module _ (n : ℕ) (t : Key × Ratio) where
   pub nothing-kept : (u : Key × Ratio) (old : Lie) → is_kept n t.0 u.0 ≡ false → Appends old (kept_product n t u) old
   nothing-kept u old e f v = rw e (rw (append-nil f) v)
 
-  pub one-kept : (u c : Key × Ratio) (out : List Item) (x : Item) → is_kept n t.0 u.0 ≡ true → coefficient_of x ≡ c → c.0 ≡ key_mul t.0 u.0 → AreSame c.1 (product t u).1 → Appends (lie_of out) (kept_product n t u) (lie_of (out ++ x ∷ []))
+  pub one-kept : (u c : Key × Ratio) (out : List Item) (x : Item) → is_kept n t.0 u.0 ≡ true → coefficient_of x ≡ c → c.0 ≡ key_mul t.0 u.0 → AreSame c.1 (term_product t u).1 → Appends (lie_of out) (kept_product n t u) (lie_of (out ++ x ∷ []))
   one-kept u c out x e q k s f v =
-      rw (e) (subst (AreValues (f ++ product t u ∷ [])) (sym (lie_of-append out (x ∷ [])))
-      (values-append f (product t u ∷ []) (lie_of out) (coefficient_of x ∷ []) v (subst (λ (y : Key × Ratio). AreValues (product t u ∷ []) (y ∷ [])) (sym q) (sym k, s, tt))))
+      rw (e) (subst (AreValues (f ++ term_product t u ∷ [])) (sym (lie_of-append out (x ∷ [])))
+      (values-append f (term_product t u ∷ []) (lie_of out) (coefficient_of x ∷ []) v (subst (λ (y : Key × Ratio). AreValues (term_product t u ∷ []) (y ∷ [])) (sym q) (sym k, s, tt))))
 
   row-step : (u : Key × Ratio) (g : Lie) → kept_product n t u ++ row n t g ≡ row n t (u ∷ g)
   row-step u g = go (is_kept n t.0 u.0)
     where
-      go : (b : Bool) → cond b (product t u ∷ []) [] ++ row n t g ≡ map (product t) (cond b (u ∷ filter (λ u. is_kept n t.0 u.0) g) (filter (λ u. is_kept n t.0 u.0) g))
+      go : (b : Bool) → cond b (term_product t u ∷ []) [] ++ row n t g ≡ map (term_product t) (cond b (u ∷ filter (λ u. is_kept n t.0 u.0) g) (filter (λ u. is_kept n t.0 u.0) g))
       go true = refl
       go false = refl
 
@@ -109,11 +109,11 @@ kept-moves n k l e o = let z : det k.exp l.exp ≡ pos 0 = opposite-det k.exp l.
     zero-kept : (x : ℤ) (b : Bool) → x ≡ pos 0 → (not (int_eq x (pos 0)) && b) ≡ true → ⊥
     zero-kept x b z f = let g : (not (int_eq (pos 0) (pos 0)) && b) ≡ true = subst (λ (y : ℤ). (not (int_eq y (pos 0)) && b) ≡ true) z f in absurd (cc)
 
-pub row-every : (P : Key × Ratio → Type 0) (n : ℕ) (t : Key × Ratio) (g : Lie) → Every (λ u. is_kept n t.0 u.0 ≡ true → P (product t u)) g → Every P (row n t g)
+pub row-every : (P : Key × Ratio → Type 0) (n : ℕ) (t : Key × Ratio) (g : Lie) → Every (λ u. is_kept n t.0 u.0 ≡ true → P (term_product t u)) g → Every P (row n t g)
 row-every P n t [] e = tt
 row-every P n t (u ∷ g) e = go (is_kept n t.0 u.0) refl (row-every P n t g e.1)
   where
-    go : (b : Bool) → is_kept n t.0 u.0 ≡ b → Every P (row n t g) → Every P (map (product t) (cond b (u ∷ filter (λ u. is_kept n t.0 u.0) g) (filter (λ u. is_kept n t.0 u.0) g)))
+    go : (b : Bool) → is_kept n t.0 u.0 ≡ b → Every P (row n t g) → Every P (map (term_product t) (cond b (u ∷ filter (λ u. is_kept n t.0 u.0) g) (filter (λ u. is_kept n t.0 u.0) g)))
     go true q i = (e.0 q, i)
     go false q i = i
 
@@ -121,11 +121,11 @@ pub products-move : (n : ℕ) (f g : Lie) → Every (λ t. t.0.exp ≢ origin) (
 products-move n [] g = tt
 products-move n (t ∷ f) g = Every-append (λ t. t.0.exp ≢ origin) (row n t g) (products n f g) (row-every (λ t. t.0.exp ≢ origin) n t g (all g)) (products-move n f g)
   where
-    all : (g : Lie) → Every (λ u. is_kept n t.0 u.0 ≡ true → (product t u).0.exp ≢ origin) g
+    all : (g : Lie) → Every (λ u. is_kept n t.0 u.0 ≡ true → (term_product t u).0.exp ≢ origin) g
     all [] = tt
     all (u ∷ g) = (kept-moves n t.0 u.0, all g)
 
--- ---- the coefficient of a product
+-- ---- the coefficient of a term_product
 
 module _ (t u c e : Ratio) (d : ℤ) (p : IsRatio t) (q : IsRatio u) (r : IsRatio c) (s : IsRatio e) (a : AreEqual c.num c.den (t.num *ℤ u.num) (t.den *ℤ u.den)) (b : AreEqual e.num e.den d (pos 1)) where
   abbrev whole : Ratio

@@ -8,11 +8,12 @@ use Rattle.scattering.proofs.Keys.{key_eq-same, same-powers}
 use Rattle.trunc_series.specs.declared.key.Key.{Key as CodeKey}
 use Rattle.trunc_series.specs.Shown.{key_of, sum_of}
 use Rattle.scattering.proofs.KeyOrder.{key_before-mul}
-use Rattle.trunc_series.proofs.Coefficients.{skip-zero}
+use Rattle.scattering.proofs.Lists.{and-right}
+use Rattle.scattering.proofs.Pairing.{skip-zero}
 use Rattle.trunc_series.proofs.Terms.{at, sum_of-drop, sum_of-push}
 use Rattle.vertex_lie.specs.declared.leading_part.Axis.{Axis}
 use Rattle.vertex_lie.specs.declared.leading_part.Axis.TheVariants.{X, Y}
-use Rattle.vertex_lie.specs.Leading.{along, is_read, key_over, read_from}
+use Rattle.vertex_lie.specs.Leading.{axis_of, is_read, key_over, read_from}
 
 -- ---- a key over a monomial
 
@@ -41,10 +42,6 @@ degree-is : (d n : ℕ) (b : Bool) → ((d == n) && b) ≡ true → d ≡ n
 degree-is d n true e = grind arith
 degree-is d n false e = absurd (grind arith)
 
-read-is : (b c : Bool) → (b && c) ≡ true → c ≡ true
-read-is true c e = e
-read-is false c e = absurd (cc)
-
 read-moves : (axis : Axis) (k : Key) → is_read axis k ≡ true → k.exp ≢ origin
 read-moves X k h o = let b : k.exp.b ≡ pos 0 = ap (λ (e : Exp). e.b) o in absurd (grind (arith, ints))
 read-moves Y k h o = let a : k.exp.a ≡ pos 0 = ap (λ (e : Exp). e.a) o in absurd (grind (arith, ints))
@@ -54,7 +51,7 @@ module _ (n : ℕ) (axis : Axis) where
   is_shown k = (degree k == n) && is_read axis k
 
   abbrev over : Key → Key
-  over k = key_over k (along axis)
+  over k = key_over k (axis_of axis)
 
   read-every : (P Q : Term → Type 0) → ((t : Term) → is_shown (over t.0) ≡ true → P t → Q (over t.0, t.1)) → (f : Sum) → Every P f → Every Q (read_from n axis f)
   read-every P Q i [] h = tt
@@ -69,7 +66,7 @@ module _ (n : ℕ) (axis : Axis) where
   read-rises (t ∷ f) r = go (is_shown (over t.0)) (read-rises f r.1)
     where
       go : (b : Bool) → EveryPair (λ t u. IsTrue (key_before t.0 u.0)) (read_from n axis f) → EveryPair (λ t u. IsTrue (key_before t.0 u.0)) (cond b ((over t.0, t.1) ∷ read_from n axis f) (read_from n axis f))
-      go true i = (read-every (λ u. IsTrue (key_before t.0 u.0)) (λ u. IsTrue (key_before (over t.0) u.0)) (λ u e b. before-over (along axis) t.0 u.0 ∙ b) f r.0, i)
+      go true i = (read-every (λ u. IsTrue (key_before t.0 u.0)) (λ u. IsTrue (key_before (over t.0) u.0)) (λ u e b. before-over (axis_of axis) t.0 u.0 ∙ b) f r.0, i)
       go false i = i
 
   pub read-series : (m : ℕ) (f : Sum) → IsSeries m f → IsSeries n (read_from n axis f)
@@ -84,9 +81,9 @@ module _ (n : ℕ) (axis : Axis) where
 
   -- the keys have this degree, and an exponent other than (0, 0)
   pub read-keys : (f : Sum) → Every (λ t. Unit {0}) f → Every (λ t. (degree t.0 ≡ n) × (t.0.exp ≢ origin)) (read_from n axis f)
-  read-keys f h = read-every (λ t. Unit {0}) (λ t. (degree t.0 ≡ n) × (t.0.exp ≢ origin)) (λ t e s. (degree-is (degree (over t.0)) n _ e, read-moves axis (over t.0) (read-is _ _ e))) f h
+  read-keys f h = read-every (λ t. Unit {0}) (λ t. (degree t.0 ≡ n) × (t.0.exp ≢ origin)) (λ t e s. (degree-is (degree (over t.0)) n _ e, read-moves axis (over t.0) (and-right _ _ e))) f h
 
-  pub read-coef : (f : Sum) (k : Key) → coef (read_from n axis f) k ≡ cond (is_shown k) (coef f (key_mul k (z (along axis)))) (pos 0)
+  pub read-coef : (f : Sum) (k : Key) → coef (read_from n axis f) k ≡ cond (is_shown k) (coef f (key_mul k (z (axis_of axis)))) (pos 0)
   read-coef [] k = none (is_shown k)
     where
       none : (b : Bool) → pos 0 ≡ cond b (pos 0) (pos 0)
@@ -95,34 +92,34 @@ module _ (n : ℕ) (axis : Axis) where
   read-coef (t ∷ f) k = go (key_eq (over t.0) k) refl (read-coef f k)
     where
       l : Key
-      l = key_mul k (z (along axis))
+      l = key_mul k (z (axis_of axis))
 
       rest : ℤ
       rest = coef (read_from n axis f) k
 
-      own : (b : Bool) → coef (read_from n axis f) k ≡ cond b (coef f (key_mul k (z (along axis)))) (pos 0) → coef (cond b ((over t.0, t.1) ∷ read_from n axis f) (read_from n axis f)) k ≡ cond b (cond (key_eq (over t.0) k) t.1 (pos 0) +ℤ coef f (key_mul k (z (along axis)))) (pos 0)
+      own : (b : Bool) → coef (read_from n axis f) k ≡ cond b (coef f (key_mul k (z (axis_of axis)))) (pos 0) → coef (cond b ((over t.0, t.1) ∷ read_from n axis f) (read_from n axis f)) k ≡ cond b (cond (key_eq (over t.0) k) t.1 (pos 0) +ℤ coef f (key_mul k (z (axis_of axis)))) (pos 0)
       own true i = ap (λ c. cond (key_eq (over t.0) k) t.1 (pos 0) +ℤ c) i
       own false i = i
 
-      apart : (b c : Bool) → coef (read_from n axis f) k ≡ cond c (coef f (key_mul k (z (along axis)))) (pos 0) → key_eq (over t.0) k ≡ false
-          → coef (cond b ((over t.0, t.1) ∷ read_from n axis f) (read_from n axis f)) k ≡ cond c (pos 0 +ℤ coef f (key_mul k (z (along axis)))) (pos 0)
+      apart : (b c : Bool) → coef (read_from n axis f) k ≡ cond c (coef f (key_mul k (z (axis_of axis)))) (pos 0) → key_eq (over t.0) k ≡ false
+          → coef (cond b ((over t.0, t.1) ∷ read_from n axis f) (read_from n axis f)) k ≡ cond c (pos 0 +ℤ coef f (key_mul k (z (axis_of axis)))) (pos 0)
       apart true true i e = rw e (ap (λ c. pos 0 +ℤ c) i)
       apart true false i e = rw e (skip-zero (coef (read_from n axis f) k) ∙ i)
-      apart false true i e = i ∙ sym (skip-zero (coef f (key_mul k (z (along axis)))))
+      apart false true i e = i ∙ sym (skip-zero (coef f (key_mul k (z (axis_of axis)))))
       apart false false i e = i
 
-      go : (b : Bool) → key_eq (over t.0) k ≡ b → coef (read_from n axis f) k ≡ cond (is_shown k) (coef f (key_mul k (z (along axis)))) (pos 0) → coef (read_from n axis (t ∷ f)) k ≡ cond (is_shown k) (coef (t ∷ f) (key_mul k (z (along axis)))) (pos 0)
+      go : (b : Bool) → key_eq (over t.0) k ≡ b → coef (read_from n axis f) k ≡ cond (is_shown k) (coef f (key_mul k (z (axis_of axis)))) (pos 0) → coef (read_from n axis (t ∷ f)) k ≡ cond (is_shown k) (coef (t ∷ f) (key_mul k (z (axis_of axis)))) (pos 0)
       go true e i =
           ap (λ (m : Key). coef (cond (is_shown m) ((over t.0, t.1) ∷ read_from n axis f) (read_from n axis f)) k) (key_eq-same (over t.0) k e)
           ∙ own (is_shown k) i
-          ∙ ap (λ (b : Bool). cond (is_shown k) (cond b t.1 (pos 0) +ℤ coef f (key_mul k (z (along axis)))) (pos 0)) (eq-over (along axis) t.0 k)
+          ∙ ap (λ (b : Bool). cond (is_shown k) (cond b t.1 (pos 0) +ℤ coef f (key_mul k (z (axis_of axis)))) (pos 0)) (eq-over (axis_of axis) t.0 k)
       go false e i =
           apart (is_shown (over t.0)) (is_shown k) i e
-          ∙ ap (λ (b : Bool). cond (is_shown k) (cond b t.1 (pos 0) +ℤ coef f (key_mul k (z (along axis)))) (pos 0)) (sym e ∙ eq-over (along axis) t.0 k)
+          ∙ ap (λ (b : Bool). cond (is_shown k) (cond b t.1 (pos 0) +ℤ coef f (key_mul k (z (axis_of axis)))) (pos 0)) (sym e ∙ eq-over (axis_of axis) t.0 k)
 
 -- ---- the steps of the loop
 
-module _ (n : ℕ) (axis : Axis) (out a : List (CodeKey × ℤ)) (i : ℕ) (h : i < length a) (key : CodeKey) (e : key_of key ≡ key_over (key_of (at a i).0) (along axis)) where
+module _ (n : ℕ) (axis : Axis) (out a : List (CodeKey × ℤ)) (i : ℕ) (h : i < length a) (key : CodeKey) (e : key_of key ≡ key_over (key_of (at a i).0) (axis_of axis)) where
   step : read_from n axis (sum_of (drop i a)) ≡ cond (is_shown n axis (key_of key)) ((key_of key, (at a i).1) ∷ read_from n axis (sum_of (drop (i + 1) a))) (read_from n axis (sum_of (drop (i + 1) a)))
   step = ap (read_from n axis) (sum_of-drop a i h) ∙ ap (λ (k : Key). cond (is_shown n axis k) ((k, (at a i).1) ∷ read_from n axis (sum_of (drop (i + 1) a))) (read_from n axis (sum_of (drop (i + 1) a)))) (sym e)
 

@@ -6,11 +6,11 @@ use Rattle.scattering.specs.Series.{Key, origin, key_eq, key_before}
 use Rattle.scattering.specs.Correction.{Ratio, IsRatio, Lie, ratio_at}
 use Rattle.scattering.proofs.Keys.{key_eq-same, key_eq-refl}
 use Rattle.completion_theory.proofs.UniqueCorrection.{ratio-is}
-use Rattle.scattering.proofs.KeyOrder.{key_before-same, key_before-trans}
-use Rattle.trunc_series.proofs.Coefficients.{Every-weaker, Every-append, Every-left, Every-right}
-use Rattle.trunc_series.proofs.Bisection.{apart-back}
+use Rattle.scattering.proofs.KeyOrder.{key_before-trans}
+use Rattle.scattering.proofs.Lists.{Every-implies, Every-append, Every-left, Every-right}
+use Rattle.scattering.proofs.StrictOrders.{apart-back}
 use Rattle.vertex_lie.specs.Shown.{of_key}
-use Rattle.vertex_lie.specs.RationalBracket.{AreSame, plus, zero_ratio, sum_from, AddFits, SumsFit, values_at, IsSummed, IsAdded}
+use Rattle.vertex_lie.specs.RationalBracket.{AreSame, plus, zero_ratio, sum_from, AddFits, SumsFit, values_at, IsSummed, IsSumWith}
 use Rattle.vertex_lie.proofs.EqualRatios.{Positive, AllPositive, same-trans, sum-same, sum-positive, sums-same, all-same, plus-positive, plus-zero}
 
 abbrev Coefficient : Type 0
@@ -50,7 +50,7 @@ ratio_at-other (u ∷ f) s k e = go (key_eq u.0 k) (ratio_at-other f s k e)
     go false i = i
 
 absent : (f : Lie) (s : Coefficient) (k : Key) → s.0 ≡ k → Every (λ u. IsTrue (key_before u.0 s.0)) f → Every (λ u. key_eq u.0 k ≡ false) f
-absent f s k e h = Every-weaker (λ (u : Coefficient). IsTrue (key_before u.0 s.0)) (λ u. key_eq u.0 k ≡ false) f (λ u b. apart-back u.0 k (subst (λ (l : Key). key_before u.0 l ≡ true) e b)) h
+absent f s k e h = Every-implies (λ (u : Coefficient). IsTrue (key_before u.0 s.0)) (λ u. key_eq u.0 k ≡ false) f (λ u b. apart-back u.0 k (subst (λ (l : Key). key_before u.0 l ≡ true) e b)) h
 
 last-own : (f : Lie) (s : Coefficient) (k : Key) → s.0 ≡ k → Every (λ u. IsTrue (key_before u.0 s.0)) f → ratio_at (f ++ s ∷ []) k ≡ s.1
 last-own f s k e h = ratio_at-after f (s ∷ []) k (absent f s k e h) ∙ ap (λ (b : Bool). cond b s.1 zero_ratio) (subst (λ (l : Key). key_eq s.0 l ≡ true) e (key_eq-refl s.0))
@@ -61,12 +61,12 @@ module _ (f : Lie) (s t : Coefficient) (r : Rises (f ++ s ∷ [])) where
   -- a term after all others
   module _ (b : key_before s.0 t.0 ≡ true) where
     earlier : Every (λ u. IsTrue (key_before u.0 t.0)) (f ++ s ∷ [])
-    earlier = Every-append (λ u. IsTrue (key_before u.0 t.0)) f (s ∷ []) (Every-weaker (λ (u : Coefficient). IsTrue (key_before u.0 s.0)) (λ u. IsTrue (key_before u.0 t.0)) f (λ u c. key_before-trans u.0 s.0 t.0 c b) (pairs-last (λ t u. IsTrue (key_before t.0 u.0)) f s r)) (b, tt)
+    earlier = Every-append (λ u. IsTrue (key_before u.0 t.0)) f (s ∷ []) (Every-implies (λ (u : Coefficient). IsTrue (key_before u.0 s.0)) (λ u. IsTrue (key_before u.0 t.0)) f (λ u c. key_before-trans u.0 s.0 t.0 c b) (pairs-last (λ t u. IsTrue (key_before t.0 u.0)) f s r)) (b, tt)
 
     pub none-yet : ratio_at (f ++ s ∷ []) t.0 ≡ zero_ratio
     none-yet = ratio_at-absent (f ++ s ∷ []) t.0 (absent (f ++ s ∷ []) t t.0 refl earlier)
 
-    pub added-after : IsAdded t (f ++ s ∷ []) ((f ++ s ∷ []) ++ t ∷ [])
+    pub added-after : IsSumWith t (f ++ s ∷ []) ((f ++ s ∷ []) ++ t ∷ [])
     added-after = record {
       rises = pairs-push (λ t u. IsTrue (key_before t.0 u.0)) (f ++ s ∷ []) t r earlier;
       exponents = λ x e. Every-append (λ u. u.0.exp ≢ origin) (f ++ s ∷ []) (t ∷ []) e (x, tt);
@@ -82,16 +82,13 @@ module _ (f : Lie) (s t : Coefficient) (r : Rises (f ++ s ∷ [])) where
     pub last-is : ratio_at (f ++ s ∷ []) t.0 ≡ s.1
     last-is = last-own f s t.0 e before_last
 
-    pub added-to_last : (total : Ratio) → AreSame total (plus s.1 t.1) → IsAdded t (f ++ s ∷ []) (f ++ (s.0, total) ∷ [])
+    pub added-to_last : (total : Ratio) → AreSame total (plus s.1 t.1) → IsSumWith t (f ++ s ∷ []) (f ++ (s.0, total) ∷ [])
     added-to_last total a = record {
       rises = pairs-push (λ t u. IsTrue (key_before t.0 u.0)) f (s.0, total) (pairs-front (λ t u. IsTrue (key_before t.0 u.0)) f s r) before_last;
       exponents = λ x h. Every-append (λ u. u.0.exp ≢ origin) f ((s.0, total) ∷ []) (Every-left (λ u. u.0.exp ≢ origin) f (s ∷ []) h) (Every-right (λ u. u.0.exp ≢ origin) f (s ∷ []) h);
       own = rw (last-is, last-own f (s.0, total) t.0 e before_last) a;
       other = λ k n. let m : key_eq s.0 k ≡ false = subst (λ (l : Key). key_eq l k ≡ false) (sym e) n in ratio_at-other f (s.0, total) k m ∙ sym (ratio_at-other f s k m);
     }
-
-pub not-before : (k l : Key) → key_before k l ≡ false → key_before l k ≡ false → k ≡ l
-not-before k l p q = key_before-same k l p q
 
 -- ---- along the list
 
@@ -112,7 +109,7 @@ positive-values (t ∷ h) r k = go (key_eq t.0 k) (positive-values h r.1 k)
     go false i = i
 
 pub values-positive : (h : Lie) → Every (λ t. IsRatio t.1) h → (k : Key) → AllPositive (values_at k h)
-values-positive h r = positive-values h (Every-weaker (λ (t : Coefficient). IsRatio t.1) (λ t. Positive t.1) h (λ t i. i.below) r)
+values-positive h r = positive-values h (Every-implies (λ (t : Coefficient). IsRatio t.1) (λ t. Positive t.1) h (λ t i. i.below) r)
 
 -- with the sum 0 nothing has been added
 pub begins-at_zero : (l : Key) (r : Ratio) (all : Lie) → (Every (λ t. t.0.exp ≢ origin) all → l.exp ≢ origin) → r ≡ zero_ratio → IsRunning ((l, r) ∷ []) all all
@@ -139,7 +136,7 @@ module _ (h h' rest all : Lie) (t : Coefficient) (r : Every (λ t. IsRatio t.1) 
   pub onward-first : ((k : Key) → SumsFit zero_ratio (values_at k all)) → AddFits (ratio_at h t.0) t.1
   onward-first f = (subst (SumsFit (ratio_at h t.0)) (values-own t.0 (key_eq-refl t.0)) (i.onward t.0 (f t.0))).0
 
-  module _ (a : IsAdded t h h') (fits : AddFits (ratio_at h t.0) t.1) where
+  module _ (a : IsSumWith t h h') (fits : AddFits (ratio_at h t.0) t.1) where
     own-at : (k : Key) → t.0 ≡ k → AreSame (ratio_at h' k) (plus (ratio_at h k) t.1)
     own-at k e = subst (λ (l : Key). AreSame (ratio_at h' l) (plus (ratio_at h l) t.1)) e a.own
 

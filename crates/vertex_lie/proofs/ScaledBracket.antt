@@ -1,20 +1,20 @@
 -- The bracket of Lie elements over common denominators is the bracket of sums.
-use Rattle.std.proofs.Common.{◌≡◌, ◌≢◌, ℕ, ◌+◌, ◌≤◌, refl, sym, ap, subst, ◌∙◌, Bool, true, false, List, [], ◌∷◌, ◌++◌, map, arith}
+use Rattle.std.proofs.Common.{◌≡◌, ℕ, ◌+◌, refl, sym, ap, subst, ◌∙◌, Bool, true, false, List, [], ◌∷◌, ◌++◌, map, arith}
 use Rattle.std.specs.Prelude.{ℤ, pos, cond, not, ◌&&◌, nat_le, ◌+ℤ◌, ◌*ℤ◌, ◌≤ℤ◌, neg_ℤ}
 use Rattle.std.proofs.lemmas.Int.{ints}
 use Rattle.sum_algebra.proofs.Ring.{var, nought, unit, ring, minus}
 use Rattle.sum_algebra.proofs.IntegerRing.{ints_ring, ◌:+◌, ◌:*◌, X, Y, Z, W}
+use Rattle.sum_algebra.proofs.Integers.{positive-mul}
 use Rattle.scattering.specs.Collections.{Every}
-use Rattle.scattering.specs.Series.{Key, Sum, int_eq, det, degree, key_mul, key_eq, coef, cut}
+use Rattle.scattering.specs.Series.{Key, int_eq, det, degree, key_mul, key_eq, coef, cut}
 use Rattle.scattering.specs.Bracket.{bracket, term_bracket}
 use Rattle.scattering.specs.Correction.{Ratio, IsRatio, Lie, ratio_at}
 use Rattle.scattering.proofs.Keys.{int_eq-same}
 use Rattle.scattering.proofs.ShiftedSums.{degree-mul}
 use Rattle.scattering.proofs.Pairing.{coef-append, coef-minus}
 use Rattle.plane_theory.proofs.Directions.{cancel, positive-not}
-use Rattle.frac_128.proofs.Lowest.{positive-mul}
 use Rattle.crossing_theory.proofs.BracketLaws.{antisymmetric}
-use Rattle.vertex_lie.specs.RationalBracket.{product, is_kept, row, products, zero_ratio, plus, sum_from, values_at, IsBracketOf}
+use Rattle.vertex_lie.specs.RationalBracket.{term_product, is_kept, row, products, zero_ratio, plus, sum_from, values_at}
 use Rattle.vertex_lie.specs.Laws.{IsOver, sum_over, CommonDenominatorExists, BracketIsOfSums, BracketOfElementsIsAntisymmetric}
 use Rattle.vertex_lie.proofs.EqualRatios.{Positive, sum-positive}
 use Rattle.vertex_lie.proofs.RunningSums.{positive-values}
@@ -92,9 +92,9 @@ module _ (k : ℕ) (x : Key) (n m : ℤ) where
 
       go : (b : Bool) → is_kept k t.0 u.0 ≡ b → (c : Bool) → nat_le (degree (key_mul t.0 u.0)) k ≡ c → SumIs (n *ℤ m) x (row k t g ++ rest) ((coef (cut k (map (term_bracket (t.0, v)) (sum_over g ws))) x) +ℤ r)
           → SumIs (n *ℤ m) x (row k t (u ∷ g) ++ rest) (coef (cut k (map (term_bracket (t.0, v)) (sum_over (u ∷ g) (w ∷ ws)))) x +ℤ r)
-      go true p true q h = rw p (rw q (subst (SumIs (n *ℤ m) x (product t u ∷ (row k t g ++ rest)))
+      go true p true q h = rw p (rw q (subst (SumIs (n *ℤ m) x (term_product t u ∷ (row k t g ++ rest)))
           (ring ints_ring (cond (key_eq (key_mul t.0 u.0) x) (det t.0.exp u.0.exp *ℤ (v *ℤ w)) (pos 0) ∷ (coef (cut k (map (term_bracket (t.0, v)) (sum_over g ws))) x) ∷ r ∷ []) (X :+ (Y :+ Z)) ((X :+ Y) :+ Z) refl)
-          (sum-more (n *ℤ m) x (product t u) (det t.0.exp u.0.exp *ℤ (v *ℤ w)) (row k t g ++ rest) ((coef (cut k (map (term_bracket (t.0, v)) (sum_over g ws))) x) +ℤ r) (is-product n m v w (det t.0.exp u.0.exp) t.1 u.1 e o.0) h)))
+          (sum-more (n *ℤ m) x (term_product t u) (det t.0.exp u.0.exp *ℤ (v *ℤ w)) (row k t g ++ rest) ((coef (cut k (map (term_bracket (t.0, v)) (sum_over g ws))) x) +ℤ r) (is-product n m v w (det t.0.exp u.0.exp) t.1 u.1 e o.0) h)))
       go true p false q h = absurd (let a : nat_le (degree t.0 + degree u.0) k ≡ true = and-right (int_eq (det t.0.exp u.0.exp) (pos 0)) _ p in let b : true ≡ false = sym a ∙ sym low ∙ q in cc)
       go false p true q h = rw p (rw q (subst (SumIs (n *ℤ m) x (row k t g ++ rest)) (ap (λ y. y +ℤ r) (sym (skip-zero (coef (cut k (map (term_bracket (t.0, v)) (sum_over g ws))) x)) ∙ ap (λ y. y +ℤ (coef (cut k (map (term_bracket (t.0, v)) (sum_over g ws))) x)) (sym nothing))) h))
         where

@@ -25,9 +25,9 @@ pub record IsLeadingPart (x y : Sum) (n : ℕ) (h : Lie) : Type 0 where
 
 -- ---- how it is read from the images
 
-abbrev pub along : Axis → Exp
-along X = axis_x
-along Y = axis_y
+abbrev pub axis_of : Axis → Exp
+axis_of X = axis_x
+axis_of Y = axis_y
 
 -- the axis from whose image the coefficient at a key is read: y where the bracket with z^(1,0) is 0
 abbrev pub is_read : Axis → Key → Bool
@@ -46,7 +46,7 @@ term_over m t = (key_over t.0 m, t.1)
 
 -- of the image of an axis, the terms over z^m from which coefficients of degree n are read
 abbrev pub read_from : ℕ → Axis → Sum → Sum
-read_from n axis f = filter (λ t. (degree t.0 == n) && is_read axis t.0) (map (term_over (along axis)) f)
+read_from n axis f = filter (λ t. (degree t.0 == n) && is_read axis t.0) (map (term_over (axis_of axis)) f)
 
 -- each coefficient divided by a number that the exponent tells
 abbrev pub AreQuotients : (Exp → ℤ) → Sum → Lie → Type 0

@@ -2,5 +2,4 @@ pub mod Shown
 pub mod Leading
 pub mod Logarithm
 pub mod RationalBracket
-pub mod Worked
 pub mod Laws

@@ -1,6 +1,7 @@
 // The bracket of Lie elements.
 
 ghost use Rattle.std.specs.Prelude.{◌≡◌, ◌≤◌, ◌↔◌, [], ◌∷◌, ◌++◌, ◌<◌, ◌^◌, pos, nat_abs, map, filter, false, not, IsTrue, IsSome, IfSome, IfOk, MatchResult};
+ghost use Rattle.limits.specs.Limits.{highest_order};
 ghost use Rattle.scattering.specs.Collections.{Every, EveryPair};
 ghost use Rattle.scattering.specs.Series.{Key as PlaneKey, det, int_eq, key_before};
 ghost use Rattle.scattering.specs.Correction.{Lie, ratio_at};
@@ -8,7 +9,7 @@ ghost use Rattle.frac_128.specs.Quotient.{AreEqual};
 ghost use Rattle.trunc_series.specs.Shown.{key_of, exp_of};
 ghost use Rattle.trunc_series.specs.Reduced.{IsNearKey};
 ghost use Rattle.vertex_lie.specs.Shown.{ratio_of, coefficient_of, lie_of, Ascends};
-ghost use Rattle.vertex_lie.specs.RationalBracket.{product, row, products, kept_product, is_kept, ProductFits, PairFits, RowFits, Appends, IsBracketOf, BracketFits, AreValues, IsSummed, IsAdded, AddFits, SumsFit, IsFaultOf, zero_ratio, values_at};
+ghost use Rattle.vertex_lie.specs.RationalBracket.{term_product, row, products, kept_product, is_kept, ProductFits, PairFits, RowProductsFit, Appends, IsBracketOf, BracketFits, AreValues, IsSummed, IsSumWith, AddFits, SumsFit, IsFaultOf, zero_ratio, values_at};
 
 use crate::element::{LieElement, arrange};
 use crate::fault::LieFault;
@@ -25,11 +26,12 @@ impl LieElement {
     /// pairs. `Range` comes where one of these numbers, as fractions are multiplied and added, leaves 128
     /// bits.
     pub fn bracket(&self, other: &LieElement, order: u32) -> Result<LieElement, LieFault>
-        requires order { order ≤ 24 }
+        requires order { order ≤ highest_order }
         requires near { Every (λ t. IsNearKey t.0) self.now }
         requires near_too { Every (λ t. IsNearKey t.0) other.now }
         ensures bracket { IfOk result (λ h. IsBracketOf order self.now other.now h) }
-        ensures range { MatchResult result (λ _. BracketFits order self.now other.now) (IsFaultOf (BracketFits order self.now other.now)) }
+        ensures range { MatchResult result (λ _. BracketFits order self.now other.now)
+            (IsFaultOf (BracketFits order self.now other.now)) }
     {
         let alloc = self.allocator();
         let mut terms = multiplied(alloc, order, self.terms(), other.terms())?;
@@ -47,11 +49,14 @@ fn multiplied(
     a: &[(Key, Fraction)],
     b: &[(Key, Fraction)],
 ) -> Result<Vec<(Key, Fraction)>, LieFault>
-    requires order { order ≤ 24 }
+    requires order { order ≤ highest_order }
     requires left { Every (λ t. IsNearKey t.0) (lie_of a.now) }
     requires right { Every (λ t. IsNearKey t.0) (lie_of b.now) }
-    ensures products { IfOk result (λ r. AreValues (products order (lie_of a.now) (lie_of b.now)) (lie_of r.items)) }
-    ensures range { MatchResult result (λ _. Every (λ t. RowFits order t (lie_of b.now)) (lie_of a.now)) (IsFaultOf (Every (λ t. RowFits order t (lie_of b.now)) (lie_of a.now))) }
+    ensures products { IfOk result
+        (λ r. AreValues (products order (lie_of a.now) (lie_of b.now)) (lie_of r.items)) }
+    ensures range { MatchResult result
+        (λ _. Every (λ t. RowProductsFit order t (lie_of b.now)) (lie_of a.now))
+        (IsFaultOf (Every (λ t. RowProductsFit order t (lie_of b.now)) (lie_of a.now))) }
 {
     let mut out = Vec::new(alloc);
     for t in a {
@@ -67,11 +72,14 @@ fn push_row(
     t: &(Key, Fraction),
     b: &[(Key, Fraction)],
 ) -> Result<(), LieFault>
-    requires order { order ≤ 24 }
+    requires order { order ≤ highest_order }
     requires left { IsNearKey (key_of t.now.0) }
     requires right { Every (λ t. IsNearKey t.0) (lie_of b.now) }
-    ensures products { IfOk result (λ _. Appends (lie_of out.old.items) (row order (coefficient_of t.now) (lie_of b.now)) (lie_of out.new.items)) }
-    ensures range { MatchResult result (λ _. RowFits order (coefficient_of t.now) (lie_of b.now)) (IsFaultOf (RowFits order (coefficient_of t.now) (lie_of b.now))) }
+    ensures products { IfOk result
+        (λ _. Appends (lie_of out.old.items) (row order (coefficient_of t.now) (lie_of b.now))
+        (lie_of out.new.items)) }
+    ensures range { MatchResult result (λ _. RowProductsFit order (coefficient_of t.now) (lie_of b.now))
+        (IsFaultOf (RowProductsFit order (coefficient_of t.now) (lie_of b.now))) }
 {
     for u in b {
         push_product(out, order, t, u)?;
@@ -86,11 +94,15 @@ fn push_product(
     t: &(Key, Fraction),
     u: &(Key, Fraction),
 ) -> Result<(), LieFault>
-    requires order { order ≤ 24 }
+    requires order { order ≤ highest_order }
     requires left { IsNearKey (key_of t.now.0) }
     requires right { IsNearKey (key_of u.now.0) }
-    ensures products { IfOk result (λ _. Appends (lie_of out.old.items) (kept_product order (coefficient_of t.now) (coefficient_of u.now)) (lie_of out.new.items)) }
-    ensures range { MatchResult result (λ _. PairFits order (coefficient_of t.now) (coefficient_of u.now)) (IsFaultOf (PairFits order (coefficient_of t.now) (coefficient_of u.now))) }
+    ensures products { IfOk result
+        (λ _. Appends (lie_of out.old.items)
+        (kept_product order (coefficient_of t.now) (coefficient_of u.now)) (lie_of out.new.items)) }
+    ensures range { MatchResult result
+        (λ _. PairFits order (coefficient_of t.now) (coefficient_of u.now))
+        (IsFaultOf (PairFits order (coefficient_of t.now) (coefficient_of u.now))) }
 {
     if !counts(order, &t.0, &u.0) {
         return Ok(());
@@ -125,7 +137,9 @@ fn determinant(k: &Key, l: &Key) -> i128
 fn term_product(t: &(Key, Fraction), u: &(Key, Fraction)) -> Option<Fraction>
     requires left { IsNearKey (key_of t.now.0) }
     requires right { IsNearKey (key_of u.now.0) }
-    ensures value { IfSome result (λ c. AreEqual c.num c.den (product (coefficient_of t.now) (coefficient_of u.now)).1.num (product (coefficient_of t.now) (coefficient_of u.now)).1.den) }
+    ensures value { IfSome result
+        (λ c. AreEqual c.num c.den (term_product (coefficient_of t.now) (coefficient_of u.now)).1.num
+        (term_product (coefficient_of t.now) (coefficient_of u.now)).1.den) }
     ensures fits { IsSome result ↔ ProductFits (coefficient_of t.now) (coefficient_of u.now) }
 {
     let c = t.1.checked_mul(u.1)?;
@@ -136,7 +150,8 @@ fn term_product(t: &(Key, Fraction), u: &(Key, Fraction)) -> Option<Fraction>
 fn summed(alloc: Global, terms: &[(Key, Fraction)]) -> Result<Vec<(Key, Fraction)>, LieFault>
     requires { Ascends (lie_of terms.now) }
     ensures sums { IfOk result (λ r. IsSummed (lie_of terms.now) (lie_of r.items)) }
-    ensures range { MatchResult result (λ _. Unit {0}) (IsFaultOf ((k : PlaneKey) → SumsFit zero_ratio (values_at k (lie_of terms.now)))) }
+    ensures range { MatchResult result (λ _. Unit {0})
+        (IsFaultOf ((k : PlaneKey) → SumsFit zero_ratio (values_at k (lie_of terms.now)))) }
 {
     let mut out = Vec::new(alloc);
     if terms.is_empty() {
@@ -156,11 +171,17 @@ fn added(
     sum: (Key, Fraction),
     t: (Key, Fraction),
 ) -> Result<(Key, Fraction), LieFault>
-    requires rises { EveryPair (λ t u. IsTrue (key_before t.0 u.0)) (lie_of (out.old.items ++ sum ∷ [])) }
+    requires rises { EveryPair (λ t u. IsTrue (key_before t.0 u.0))
+        (lie_of (out.old.items ++ sum ∷ [])) }
     requires later { key_before (key_of t.0) (key_of sum.0) ≡ false }
-    ensures added { IfOk result (λ s. IsAdded (coefficient_of t) (lie_of (out.old.items ++ sum ∷ [])) (lie_of (out.new.items ++ s ∷ []))) }
+    ensures added { IfOk result
+        (λ s. IsSumWith (coefficient_of t) (lie_of (out.old.items ++ sum ∷ []))
+        (lie_of (out.new.items ++ s ∷ []))) }
     ensures key { IfOk result (λ s. key_of s.0 ≡ key_of t.0) }
-    ensures range { MatchResult result (λ _. AddFits (ratio_at (lie_of (out.old.items ++ sum ∷ [])) (key_of t.0)) (ratio_of t.1)) (IsFaultOf (AddFits (ratio_at (lie_of (out.old.items ++ sum ∷ [])) (key_of t.0)) (ratio_of t.1))) }
+    ensures range { MatchResult result
+        (λ _. AddFits (ratio_at (lie_of (out.old.items ++ sum ∷ [])) (key_of t.0)) (ratio_of t.1))
+        (IsFaultOf (AddFits (ratio_at (lie_of (out.old.items ++ sum ∷ [])) (key_of t.0))
+        (ratio_of t.1))) }
 {
     if compare(&sum.0, &t.0).is_lt() {
         out.push(sum)?;

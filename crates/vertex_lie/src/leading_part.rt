@@ -5,10 +5,10 @@ ghost use Rattle.scattering.specs.Collections.{Every};
 ghost use Rattle.scattering.specs.Series.{origin, degree};
 ghost use Rattle.scattering.specs.Correction.{Lie};
 ghost use Rattle.frac_128.specs.Quotient.{AreEqual};
-ghost use Rattle.trunc_series.specs.Shown.{key_of, term_of, sum_of, exp_of, IsNear};
+ghost use Rattle.trunc_series.specs.Shown.{key_of, term_of, sum_of, exp_of, HasNearTerms};
 ghost use Rattle.trunc_series.specs.Reduced.{IsNearKey};
 ghost use Rattle.vertex_lie.specs.Shown.{lie_of};
-ghost use Rattle.vertex_lie.specs.Leading.{IsLeading, IsLeadingPart, along, is_read, turn, key_over, read_from, AreQuotients, IsDividend};
+ghost use Rattle.vertex_lie.specs.Leading.{IsLeading, IsLeadingPart, axis_of, is_read, turn, key_over, read_from, AreQuotients, IsDividend};
 
 use crate::element::LieElement;
 use frac_128::Fraction;
@@ -31,8 +31,8 @@ pub fn leading(
     image_y: &Series,
     degree: u32,
 ) -> Result<LieElement, AllocError>
-    requires near_x { IsNear image_x.now.terms }
-    requires near_y { IsNear image_y.now.terms }
+    requires near_x { HasNearTerms image_x.now.terms }
+    requires near_y { HasNearTerms image_y.now.terms }
     requires exists { (h : Lie) × IsLeading image_x.now.terms image_y.now.terms degree h }
     ensures { IfOk result (λ h. IsLeadingPart image_x.now.terms image_y.now.terms degree h) }
 {
@@ -81,7 +81,7 @@ fn shows(level: u32, axis: Axis, key: &Key) -> bool
 /// The key over an axis' monomial.
 fn over(key: &Key, axis: Axis) -> Key
     requires { IsNearKey (key_of key.now) }
-    ensures { key_of result ≡ key_over (key_of key.now) (along axis) }
+    ensures { key_of result ≡ key_over (key_of key.now) (axis_of axis) }
 {
     let exp = key.exp;
     Key {

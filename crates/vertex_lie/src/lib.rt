@@ -8,12 +8,10 @@ mod fault;
 mod laws;
 mod leading_part;
 mod logarithm;
+mod shared;
 
 pub use element::LieElement;
 pub use fault::LieFault;
 pub use laws::{brackets_are_of_sums, elements_are_determined, leading_parts_are_corrections};
 pub use leading_part::leading;
 pub use logarithm::wall_log;
-
-#[cfg(test)]
-mod tests;

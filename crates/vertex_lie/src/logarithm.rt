@@ -1,16 +1,17 @@
 // Logarithms of wall functions.
 
 ghost use Rattle.std.specs.Prelude.{◌≡◌, ◌≢◌, ◌/◌, ◌≤◌, ◌<◌, ◌^◌, ◌↔◌, ◌≤ℤ◌, pos, nat_abs, IsTrue, IfOk, MatchResult};
+ghost use Rattle.limits.specs.Limits.{highest_order};
 ghost use Rattle.scattering.specs.Collections.{Every};
 ghost use Rattle.scattering.specs.Series.{degree, rest, IsMultiple, IsWallFunction};
-ghost use Rattle.plane_geom.specs.Shown.{exp_of as direction_of};
+ghost use Rattle.plane_geom.specs.Shown.{vector_of as direction_of};
 ghost use Rattle.trunc_series.specs.declared.arithmetic.Arithmetic.TheVariants.{Wrapping};
-ghost use Rattle.trunc_series.specs.Shown.{exp_of, sum_of, IsNear};
-ghost use Rattle.trunc_series.specs.Reduced.{IsReduced, IsTame};
+ghost use Rattle.trunc_series.specs.Shown.{exp_of, sum_of, HasNearTerms};
+ghost use Rattle.trunc_series.specs.Reduced.{IsKeptAs, GrowsSlowly};
 ghost use Rattle.vertex_lie.specs.Shown.{lie_of};
 ghost use Rattle.vertex_lie.specs.Leading.{AreQuotients};
 ghost use Rattle.vertex_lie.specs.RationalBracket.{IsFaultOf};
-ghost use Rattle.vertex_lie.specs.Logarithm.{factor, scaled_log, multiple_of, log_divisor, IsLogarithm, LogFits};
+ghost use Rattle.vertex_lie.specs.Logarithm.{log_factor, scaled_log, multiple_of, log_divisor, IsLogarithm, LogFits};
 
 use crate::element::LieElement;
 use crate::fault::LieFault;
@@ -31,9 +32,11 @@ const LARGEST_MASS: u128 = 15888486210965754580488470238;
 /// all (|f| - 1)^i exceeds 2^126.
 pub fn wall_log(alloc: Global, function: &Series, dir: &Direction) -> Result<LieElement, LieFault>
     requires function { IsWallFunction function.now.order (direction_of dir.now) function.now.terms }
-    requires near { IsNear function.now.terms }
-    ensures logarithm { IfOk result (λ h. IsLogarithm function.now.order (direction_of dir.now) function.now.terms h) }
-    ensures range { MatchResult result (λ _. LogFits function.now.order function.now.terms) (IsFaultOf (LogFits function.now.order function.now.terms)) }
+    requires near { HasNearTerms function.now.terms }
+    ensures logarithm { IfOk result
+        (λ h. IsLogarithm function.now.order (direction_of dir.now) function.now.terms h) }
+    ensures range { MatchResult result (λ _. LogFits function.now.order function.now.terms)
+        (IsFaultOf (LogFits function.now.order function.now.terms)) }
 {
     if !is_within(function)? {
         return Err(LieFault::Range);
@@ -47,7 +50,7 @@ pub fn wall_log(alloc: Global, function: &Series, dir: &Direction) -> Result<Lie
 /// Whether the masses are small enough.
 fn is_within(function: &Series) -> Result<bool, AllocError>
     requires others { Every (λ t. 1 ≤ degree t.0) (rest function.now.terms) }
-    requires near { IsNear function.now.terms }
+    requires near { HasNearTerms function.now.terms }
     ensures { IfOk result (λ b. IsTrue b ↔ LogFits function.now.order function.now.terms) }
 {
     let majorant = Majorant::geometric_of(function)?;
@@ -56,10 +59,11 @@ fn is_within(function: &Series) -> Result<bool, AllocError>
 
 /// The multiple times the sum over i from 1 to the order of (-1)^(i + 1)/i*g^i.
 fn scaled_sum(alloc: Global, order: u32, g: &[(Key, i128)]) -> Result<Vec<(Key, i128)>, AllocError>
-    requires order { order ≤ 24 }
-    requires reduced { IsReduced Wrapping order (sum_of g.now) (sum_of g.now) }
-    requires tame { Every (λ t. IsTame t.0) (sum_of g.now) }
-    ensures { IfOk result (λ r. IsReduced Wrapping order (sum_of r.items) (scaled_log order (sum_of g.now) order)) }
+    requires order { order ≤ highest_order }
+    requires reduced { IsKeptAs Wrapping order (sum_of g.now) (sum_of g.now) }
+    requires tame { Every (λ t. GrowsSlowly t.0) (sum_of g.now) }
+    ensures { IfOk result
+        (λ r. IsKeptAs Wrapping order (sum_of r.items) (scaled_log order (sum_of g.now) order)) }
 {
     let rule = Arithmetic::Wrapping;
     let mut power = Vec::from_slice(alloc, &[(Key::ONE, 1)])?;
@@ -76,8 +80,8 @@ fn scaled_sum(alloc: Global, order: u32, g: &[(Key, i128)]) -> Result<Vec<(Key, 
 /// (-1)^(i + 1)/i, times the multiple.
 fn factor(i: u32) -> i128
     requires positive { 1 ≤ i }
-    requires small { i ≤ 24 }
-    ensures value { result ≡ factor i }
+    requires small { i ≤ highest_order }
+    ensures value { result ≡ log_factor i }
     ensures nonzero { result ≢ pos 0 }
     ensures small { nat_abs result < 2 ^ 127 }
 {
@@ -93,7 +97,8 @@ fn shares(
 ) -> Result<Vec<(Key, Fraction)>, AllocError>
     requires multiples { Every (λ t. IsMultiple (direction_of dir.now) t.0.exp) (sum_of terms.now) }
     requires small { Every (λ t. nat_abs t.1 < 2 ^ 127) (sum_of terms.now) }
-    ensures { IfOk result (λ r. AreQuotients (log_divisor (direction_of dir.now)) (sum_of terms.now) (lie_of r.items)) }
+    ensures { IfOk result
+        (λ r. AreQuotients (log_divisor (direction_of dir.now)) (sum_of terms.now) (lie_of r.items)) }
 {
     let mut out = Vec::with_capacity(alloc, terms.len())?;
     for t in terms {

@@ -2,11 +2,13 @@
 use Rattle.std.proofs.Common.{◌≡◌, ℕ, zero, suc, refl, sym, ap, ◌∙◌, [], ◌++◌}
 use Rattle.scattering.specs.Collections.{Every}
 use Rattle.scattering.specs.Series.{Key, Sum, Same, coef, one, mul, pow, powers_to}
+use Rattle.scattering.proofs.Lists.{Every-append}
+use Rattle.scattering.proofs.Pairing.{coef-append}
 use Rattle.trunc_series.specs.declared.arithmetic.Arithmetic.{Arithmetic}
 use Rattle.trunc_series.specs.Arithmetic.{kept, IsKeepable}
-use Rattle.trunc_series.specs.Reduced.{IsReduced}
+use Rattle.trunc_series.specs.Reduced.{IsKeptAs}
 use Rattle.trunc_series.proofs.Kept.{keepable-one, kept-same_left, kept-same_right}
-use Rattle.trunc_series.proofs.Coefficients.{Every-append, coef-append, keepable-coef}
+use Rattle.trunc_series.proofs.Coefficients.{keepable-coef}
 use Rattle.trunc_series.proofs.Rows.{mul-keepable}
 use Rattle.trunc_series.proofs.Congruence.{left-kept, mul-comm}
 use Rattle.trunc_series.proofs.Merging.{whole}
@@ -73,8 +75,8 @@ module _ (rule : Arithmetic) where
 
   -- ---- lists that stand for sums
 
-  pub reduced-alike : (n : ℕ) (r f : Sum) → IsReduced rule n r f → Alike rule r f
+  pub reduced-alike : (n : ℕ) (r f : Sum) → IsKeptAs rule n r f → Alike rule r f
   reduced-alike n r f h = record { left = whole rule r h.keeps; right = h.keepable; same = h.same }
 
-  pub alike-reduced : (n : ℕ) (r f g : Sum) → IsReduced rule n r f → Alike rule f g → IsReduced rule n r g
+  pub alike-reduced : (n : ℕ) (r f g : Sum) → IsKeptAs rule n r f → Alike rule f g → IsKeptAs rule n r g
   alike-reduced n r f g h a = record { series = h.series; keeps = h.keeps; keepable = a.right; same = λ k. h.same k ∙ a.same k }

@@ -6,19 +6,19 @@ use Rattle.std.proofs.lemmas.Int.{ints}
 use Rattle.scattering.specs.Series.{Exp, Key, Sum, Same, SameTo, degree, coef, det, key_mul, mul, power}
 use Rattle.scattering.specs.Bracket.{bracket}
 use Rattle.scattering.specs.LocalProduct.{cross}
-use Rattle.scattering.proofs.Pairing.{pairing, pairing-same}
+use Rattle.scattering.proofs.Pairing.{pairing, pairing-same, coef-append}
+use Rattle.scattering.proofs.Coefficients.{coef-above}
+use Rattle.scattering.proofs.ShiftedSums.{degree-mul}
+use Rattle.scattering.proofs.Determined.{terms-unique}
 use Rattle.crossing_theory.proofs.CrossingLaws as theory
 use Rattle.crossing_theory.proofs.Translation.{from_Eq, to_Eq}
 use Rattle.crossing_theory.proofs.BracketLaws.{pair-brace}
 use Rattle.sum_algebra.proofs.Sums.{pair, pair-ext, pair-zero}
-use Rattle.trunc_series.proofs.Associate.{degree-mul}
 use Rattle.trunc_series.specs.Shown.{Seen, IsSeriesOf}
-use Rattle.trunc_series.proofs.Coefficients.{coef-append, add-zero}
+use Rattle.trunc_series.proofs.Coefficients.{add-zero}
 use Rattle.trunc_series.proofs.Congruence.{weight, mul-weight}
 use Rattle.trunc_series.proofs.PowerLaws.{row-above, mul-same_right, mul-same_left}
-use Rattle.trunc_series.proofs.Unique.{terms-unique}
-use Rattle.wall_auto.specs.Laws.{CrossingKeepsProducts, CrossingKeepsBrackets, CrossingKeepsCenter, CrossingIsUndone}
-use Rattle.wall_auto.proofs.LowerOrders.{coef-above}
+use Rattle.wall_auto.specs.Laws.{CrossedSeriesKeepProducts, CrossedSeriesKeepBrackets, CrossedSeriesKeepCenter, CrossedSeriesAreUndone}
 
 -- ---- a crossing is read of its sum term by term
 
@@ -52,7 +52,7 @@ same-series x y k f g h i e =
       | no b ↦ coef-above k x.terms l h.series.low (omega (arith, b)) ∙ sym (coef-above k y.terms l i.series.low (omega (arith, b)))
     ]
 
-pub products : CrossingKeepsProducts
+pub products : CrossedSeriesKeepProducts
 products k m d f s g h p x y q r w hp hx hy hq hr =
     same-series q r k (cross k d f s p.terms) (mul k x.terms y.terms) hq hr
     (λ l b.
@@ -76,7 +76,7 @@ bracket-respects k f f' g g' a b =
     nought : (c x : ℤ) → x ≡ pos 0 → c *ℤ x ≡ pos 0
     nought c x e = rw e (omega (arith, ints))
 
-pub brackets : CrossingKeepsBrackets
+pub brackets : CrossedSeriesKeepBrackets
 brackets k m d f s g h p x y q r w hp hx hy hq hr =
     same-series q r k (cross k d f s p.terms) (bracket k x.terms y.terms) hq hr
     (λ l b.
@@ -84,13 +84,13 @@ brackets k m d f s g h p x y q r w hp hx hy hq hr =
     ∙ theory.keeps-brackets k m d f s w g.terms h.terms l b
     ∙ sym (bracket-respects k x.terms (cross k d f s g.terms) y.terms (cross k d f s h.terms) hx.same hy.same l b))
 
-pub center : CrossingKeepsCenter
+pub center : CrossedSeriesKeepCenter
 center k m d f s g x l w hg hx o = elim (dec_le (degree l) k) [
   | yes b ↦ hx.same l ∙ theory.keeps-center k m d f s w g.terms l b o
   | no b ↦ coef-above k x.terms l hx.series.low (omega (arith, b)) ∙ sym (coef-above k g.terms l hg.series.low (omega (arith, b)))
 ]
 
-pub undone : CrossingIsUndone
+pub undone : CrossedSeriesAreUndone
 undone k m d f s g x y w hg hx hy =
     same-series y g k (cross k d f (neg_ℤ s) x.terms) g.terms hy hg
     (λ l b. cross-respects k d f (neg_ℤ s) x.terms (cross k d f s g.terms) (λ z c. hx.same z) l ∙ theory.is-undone k m d f s w g.terms l b)

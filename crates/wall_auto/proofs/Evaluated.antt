@@ -6,12 +6,13 @@ use Rattle.std.proofs.lemmas.List.{drop_all, take-append-drop, length-replicate}
 use Rattle.std.proofs.lemmas.Grind.{replicate_next}
 use Rattle.scattering.specs.Collections.{Every}
 use Rattle.scattering.specs.Series.{Sum, Same, degree, key_eq, coef, cut, unit, one, minus, mul, pow, powers_to}
-use Rattle.scattering.proofs.Pairing.{pairing-minus, coef-minus}
+use Rattle.scattering.proofs.Pairing.{pairing-minus, coef-minus, coef-append}
+use Rattle.scattering.proofs.Lists.{Every-append, Every-left, Every-right}
 use Rattle.trunc_series.specs.declared.arithmetic.Arithmetic.{Arithmetic}
 use Rattle.trunc_series.specs.declared.arithmetic.Arithmetic.TheVariants.{Wrapping, Saturating}
 use Rattle.trunc_series.specs.Arithmetic.{kept, IsKeepable}
 use Rattle.trunc_series.proofs.Kept.{keepable-zero, keepable-one, kept-zero}
-use Rattle.trunc_series.proofs.Coefficients.{Every-append, Every-left, Every-right, coef-append, add-zero}
+use Rattle.trunc_series.proofs.Coefficients.{add-zero}
 use Rattle.trunc_series.proofs.Rows.{mul-keepable}
 use Rattle.trunc_series.proofs.Products.{low-mul}
 use Rattle.trunc_series.proofs.Congruence.{weight, mul-weight, mul-comm}

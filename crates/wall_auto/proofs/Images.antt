@@ -3,16 +3,17 @@ use Rattle.std.proofs.Common.{◌≡◌, ℕ, zero, suc, ◌+◌, ◌<◌, ◌�
 use Rattle.std.specs.Prelude.{ℤ, pos, ◌+ℤ◌, ◌*ℤ◌, nat_le, nat_lt, nat_abs, ◌==◌}
 use Rattle.std.proofs.lemmas.Int.{ints}
 use Rattle.scattering.specs.Series.{Exp, Key, Term, Sum, Same, SameTo, degree, key_mul, coef, det, mul, pow, powers_to}
-use Rattle.scattering.proofs.Pairing.{pairing-same}
+use Rattle.scattering.proofs.Pairing.{pairing-same, coef-append}
+use Rattle.scattering.proofs.Lists.{Every-append}
+use Rattle.scattering.proofs.ShiftedSums.{degree-mul}
 use Rattle.trunc_series.specs.declared.arithmetic.Arithmetic.{Arithmetic}
 use Rattle.trunc_series.specs.declared.arithmetic.Arithmetic.TheVariants.{Wrapping, Saturating}
 use Rattle.trunc_series.specs.Arithmetic.{IsKeepable}
-use Rattle.trunc_series.specs.Reduced.{IsReduced}
+use Rattle.trunc_series.specs.Reduced.{IsKeptAs}
 use Rattle.trunc_series.proofs.Kept.{keepable-one}
-use Rattle.trunc_series.proofs.Coefficients.{Every-append, coef-append, add-zero}
+use Rattle.trunc_series.proofs.Coefficients.{add-zero}
 use Rattle.trunc_series.proofs.Rows.{below, level, Every-filter, mul-keepable, reduced-same}
 use Rattle.trunc_series.proofs.Congruence.{weight, mul-weight, mul-comm}
-use Rattle.trunc_series.proofs.Associate.{degree-mul}
 use Rattle.trunc_series.proofs.PowerLaws.{pow-keepable}
 use Rattle.wall_auto.specs.Crossed.{factor, crossing}
 use Rattle.wall_auto.specs.Known.{IsOthers}
@@ -51,7 +52,7 @@ term-to k j t g g' l s x =
     high y h = let m = degree-mul y t.0 in rw (above (degree (key_mul y t.0)) (omega (arith, m, h, l))) refl
 
 pub image-reduced : (rule : Arithmetic) (k e : ℕ) (u : Sum) (d : Exp) (s : ℤ) (t : Term) (p r : Sum) → IsOthers rule k u → e ≤ k → k ≤ degree t.0 + e → IsKeepable rule t.1
-    → IsReduced rule e p (factor rule e u (s *ℤ det d t.0.exp)) → IsReduced rule k r (mul k (t ∷ []) p) → IsReduced rule k r (crossing rule k u d s (t ∷ []))
+    → IsKeptAs rule e p (factor rule e u (s *ℤ det d t.0.exp)) → IsKeptAs rule k r (mul k (t ∷ []) p) → IsKeptAs rule k r (crossing rule k u d s (t ∷ []))
 image-reduced rule k e u d s t p r o l f h hp hr =
     let n : ℤ = s *ℤ det d t.0.exp in
     let low : Sum = factor rule e u n in
@@ -92,7 +93,7 @@ module _ (E : Term → Sum) (d : ℕ) (x : Key) where
       map-cond false t f = refl
 
 pub crossing-level : (rule : Arithmetic) (k : ℕ) (u : Sum) (d : Exp) (s : ℤ) (g r : Sum) (i : ℕ) → Keepable rule u → Keepable rule g
-    → IsReduced rule k r (crossing rule k u d s (below i g) ++ crossing rule k u d s (level i g)) → IsReduced rule k r (crossing rule k u d s (below (i + 1) g))
+    → IsKeptAs rule k r (crossing rule k u d s (below i g) ++ crossing rule k u d s (level i g)) → IsKeptAs rule k r (crossing rule k u d s (below (i + 1) g))
 crossing-level rule k u d s g r i hu hg h =
     reduced-same rule k r _ _ h (crossing-keepable rule k u d s (below (i + 1) g) hu (Every-filter (λ t. IsKeepable rule t.1) (λ t. nat_lt (degree t.0) (i + 1)) g hg))
     (λ x. coef-append (crossing rule k u d s (below i g)) (crossing rule k u d s (level i g)) x ∙ levels-of (λ t. mul k (t ∷ []) (factor rule k u (s *ℤ det d t.0.exp))) i x g)

@@ -9,4 +9,5 @@ pub mod Images
 pub mod KnownPowers
 pub mod Results
 pub mod CrossedSeries
-pub mod WorkedWalls
+pub mod Substituted
+pub mod Saturated

@@ -1,15 +1,16 @@
 -- Powers modulo a lower degree: they are what is left of those modulo a higher one.
-use Rattle.std.proofs.Common.{◌≡◌, ℕ, zero, suc, ◌+◌, ◌-◌, ◌<◌, ◌≤◌, refl, sym, ap, ◌∙◌, Bool, true, false, cond, [], ◌∷◌, arith}
+use Rattle.std.proofs.Common.{◌≡◌, ℕ, zero, suc, ◌+◌, ◌-◌, ◌<◌, ◌≤◌, refl, sym, ap, ◌∙◌, Bool, true, false, [], ◌∷◌, arith}
 use Rattle.std.specs.Prelude.{ℤ, pos, negsuc, ◌+ℤ◌, nat_le, nat_abs}
 use Rattle.std.proofs.Math.Decide.{dec_le}
 use Rattle.scattering.specs.Collections.{Every}
-use Rattle.scattering.specs.Series.{Key, Term, Sum, Same, SameTo, degree, key_eq, coef, coef_at, cut, one, minus, mul, pow, powers_to}
+use Rattle.scattering.specs.Series.{Key, Term, Sum, Same, SameTo, degree, key_eq, coef, cut, one, minus, mul, pow, powers_to}
 use Rattle.scattering.proofs.Keys.{key_eq-same}
+use Rattle.scattering.proofs.Pairing.{coef-append}
+use Rattle.scattering.proofs.Coefficients.{coef-cut, coef-above, low-cut}
 use Rattle.trunc_series.specs.declared.arithmetic.Arithmetic.{Arithmetic}
 use Rattle.trunc_series.specs.declared.arithmetic.Arithmetic.TheVariants.{Wrapping, Saturating}
 use Rattle.trunc_series.specs.Arithmetic.{kept, IsKeepable}
-use Rattle.trunc_series.proofs.Coefficients.{coef-append, skip-zero, add-zero, coef-none}
-use Rattle.trunc_series.proofs.Exact.{low-cut}
+use Rattle.trunc_series.proofs.Coefficients.{add-zero}
 use Rattle.trunc_series.proofs.Rows.{row_sum, Every-filter}
 use Rattle.trunc_series.proofs.Congruence.{mul-comm}
 use Rattle.trunc_series.proofs.PowerLaws.{mul-same_to, pow-low}
@@ -29,25 +30,6 @@ other-degree n t x l h = go (key_eq t.0 x) refl
     go : (b : Bool) → key_eq t.0 x ≡ b → b ≡ false
     go false e = refl
     go true e = let d : degree t.0 ≡ degree x = ap degree (key_eq-same t.0 x e) in let a = above (degree t.0) h in absurd (omega (arith, d, a, l))
-
-pub coef-cut : (n : ℕ) (f : Sum) (x : Key) → degree x ≤ n → coef (cut n f) x ≡ coef f x
-coef-cut n [] x l = refl
-coef-cut n (t ∷ f) x l = go (nat_le (degree t.0) n) refl (coef-cut n f x l)
-  where
-    go : (b : Bool) → nat_le (degree t.0) n ≡ b → coef (cut n f) x ≡ coef f x → coef (cond b (t ∷ cut n f) (cut n f)) x ≡ coef (t ∷ f) x
-    go true e h = ap (λ c. coef_at x t +ℤ c) h
-    go false e h = rw (other-degree n t x l e) (h ∙ sym (skip-zero (coef f x)))
-
-pub coef-above : (n : ℕ) (f : Sum) (x : Key) → Every (λ t. degree t.0 ≤ n) f → n < degree x → coef f x ≡ pos 0
-coef-above n f x h l = coef-none f x (apart f h)
-  where
-    apart : (f : Sum) → Every (λ t. degree t.0 ≤ n) f → Every (λ t. key_eq t.0 x ≡ false) f
-    apart [] h = tt
-    apart (t ∷ f) h = (go (key_eq t.0 x) refl, apart f h.1)
-      where
-        go : (b : Bool) → key_eq t.0 x ≡ b → b ≡ false
-        go false e = refl
-        go true e = let d : degree t.0 ≡ degree x = ap degree (key_eq-same t.0 x e) in let i = h.0 in absurd (omega (arith, d, i, l))
 
 -- by degree: up to n, or above it, where both sums have no terms
 pub by-degree : (n : ℕ) (f g : Sum) → Every (λ t. degree t.0 ≤ n) f → Every (λ t. degree t.0 ≤ n) g → SameTo n f g → Same f g

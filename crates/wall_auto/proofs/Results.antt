@@ -7,37 +7,37 @@ use Rattle.scattering.specs.Collections.{Every}
 use Rattle.scattering.specs.Series.{Exp, Key, Sum, Same, IsWallFunction, degree, key_eq, coef, unit, cut, det, one, rest, absolute, geometric, mul, pow, power, powers_to, mass_to}
 use Rattle.scattering.specs.LocalProduct.{cross, cross_majorant}
 use Rattle.scattering.proofs.Keys.{key_eq-same}
-use Rattle.scattering.proofs.Pairing.{coef-without}
+use Rattle.scattering.proofs.Pairing.{coef-without, coef-append, skip-zero}
+use Rattle.scattering.proofs.Lists.{Every-append}
+use Rattle.scattering.proofs.Coefficients.{coef-above, cut-low}
 use Rattle.weight_theory.proofs.Crossings.{crossing-is-below, absolute-is-above}
 use Rattle.weight_theory.proofs.Masses.{coefficient-is-below}
 use Rattle.trunc_series.specs.declared.arithmetic.Arithmetic.{Arithmetic}
 use Rattle.trunc_series.specs.declared.arithmetic.Arithmetic.TheVariants.{Wrapping, Saturating}
 use Rattle.trunc_series.specs.Shown.{IsValid}
 use Rattle.trunc_series.specs.Capped.{IsMajorant}
-use Rattle.trunc_series.specs.Reduced.{IsReduced, absolute_sum}
-use Rattle.trunc_series.proofs.Coefficients.{Every-append, coef-append, skip-zero}
+use Rattle.trunc_series.specs.Reduced.{IsKeptAs, absolute_sum}
 use Rattle.trunc_series.proofs.Exact.{Made, exact}
 use Rattle.trunc_series.proofs.Majorants.{MadeMajorant, made-majorant, majorant-keepable, absolute-reduced}
 use Rattle.trunc_series.proofs.Products.{low-mul}
 use Rattle.trunc_series.proofs.Rows.{Every-filter, reduced-same}
-use Rattle.trunc_series.proofs.PowerLaws.{cut-low, mul-same_right}
+use Rattle.trunc_series.proofs.PowerLaws.{mul-same_right}
 use Rattle.trunc_series.proofs.RingLaws.{powers-keep}
+use Rattle.trunc_series.proofs.Inverses.{rest-valid}
 use Rattle.wall_auto.specs.Crossed.{factor, crossing}
 use Rattle.wall_auto.proofs.Alike.{Alike, Keepable, alike-refl, alike-append, alike-mul, alike-pow, alike-powers, reduced-alike, alike-reduced}
 use Rattle.wall_auto.proofs.Evaluated.{all-wrapping}
-use Rattle.wall_auto.proofs.LowerOrders.{coef-above}
-use Rattle.wall_auto.proofs.Prepared.{valid-rest}
 
 -- a prepared wall in the words of its parts
 pub by-parts : (rule rule' : Arithmetic) (k k' : ℕ) (u u' : Sum) (d d' : Exp) (s s' : ℤ) (g g' r : Sum) → rule ≡ rule' → k ≡ k' → u ≡ u' → d ≡ d' → s ≡ s' → g ≡ g'
-    → IsReduced rule k r (crossing rule k u d s g) → IsReduced rule' k' r (crossing rule' k' u' d' s' g')
+    → IsKeptAs rule k r (crossing rule k u d s g) → IsKeptAs rule' k' r (crossing rule' k' u' d' s' g')
 by-parts rule rule' k k' u u' d d' s s' g g' r a b c e f h i =
-    subst (λ (x : Sum). IsReduced rule' k' r (crossing rule' k' u' d' s' x)) h
-    (subst (λ (x : ℤ). IsReduced rule' k' r (crossing rule' k' u' d' x g)) f
-    (subst (λ (x : Exp). IsReduced rule' k' r (crossing rule' k' u' x s g)) e
-    (subst (λ (x : Sum). IsReduced rule' k' r (crossing rule' k' x d s g)) c
-    (subst (λ (x : ℕ). IsReduced rule' x r (crossing rule' x u d s g)) b
-    (subst (λ (x : Arithmetic). IsReduced x k r (crossing x k u d s g)) a i)))))
+    subst (λ (x : Sum). IsKeptAs rule' k' r (crossing rule' k' u' d' s' x)) h
+    (subst (λ (x : ℤ). IsKeptAs rule' k' r (crossing rule' k' u' d' x g)) f
+    (subst (λ (x : Exp). IsKeptAs rule' k' r (crossing rule' k' u' x s g)) e
+    (subst (λ (x : Sum). IsKeptAs rule' k' r (crossing rule' k' x d s g)) c
+    (subst (λ (x : ℕ). IsKeptAs rule' x r (crossing rule' x u d s g)) b
+    (subst (λ (x : Arithmetic). IsKeptAs x k r (crossing x k u d s g)) a i)))))
 
 -- ---- crossings
 
@@ -79,7 +79,7 @@ module _ (k : ℕ) (d : Exp) (f : Sum) (w : IsWallFunction k d f) where
     | no l ↦ rw (coef-above k (cross k d f s g) x (cross-low s g) (omega (arith, l))) (omega arith)
   ]
 
-  pub made-crossing : (s : ℤ) (g r : Sum) → k ≤ 24 → nat_abs s ≡ 1 → mass_to k (cross_majorant k d f (absolute g)) ≤ 2 ^ 126 → IsReduced Wrapping k r (crossing Wrapping k (rest f) d s g) → Made k r (cross k d f s g)
+  pub made-crossing : (s : ℤ) (g r : Sum) → k ≤ 24 → nat_abs s ≡ 1 → mass_to k (cross_majorant k d f (absolute g)) ≤ 2 ^ 126 → IsKeptAs Wrapping k r (crossing Wrapping k (rest f) d s g) → Made k r (cross k d f s g)
   made-crossing s g r o h m i =
       exact k r (cross k d f s g) o (reduced-same Wrapping k r _ (cross k d f s g) i (all-wrapping (cross k d f s g)) (crossing-cross s g)) (small s g h m)
 
@@ -104,9 +104,9 @@ crossing-majorant k d f (t ∷ g) =
     one-times : (x : ℤ) → pos 1 *ℤ x ≡ x
     one-times x = omega (arith, ints)
 
-pub made-crossing_majorant : (k : ℕ) (d : Exp) (f g r : Sum) → IsValid k f → IsMajorant k g → IsReduced Saturating k r (crossing Saturating k (absolute_sum (rest f)) d (pos 1) g) → MadeMajorant k r (cross_majorant k d f g)
+pub made-crossing_majorant : (k : ℕ) (d : Exp) (f g r : Sum) → IsValid k f → IsMajorant k g → IsKeptAs Saturating k r (crossing Saturating k (absolute_sum (rest f)) d (pos 1) g) → MadeMajorant k r (cross_majorant k d f g)
 made-crossing_majorant k d f g r v m h =
-    let a = reduced-alike Saturating k (absolute_sum (rest f)) (absolute (rest f)) (absolute-reduced k (rest f) (valid-rest k f v)) in
+    let a = reduced-alike Saturating k (absolute_sum (rest f)) (absolute (rest f)) (absolute-reduced k (rest f) (rest-valid k f v)) in
     made-majorant k r (cross_majorant k d f g) v.order
-    (subst (λ (c : Sum). IsReduced Saturating k r c) (crossing-majorant k d f g)
+    (subst (λ (c : Sum). IsKeptAs Saturating k r c) (crossing-majorant k d f g)
     (alike-reduced Saturating k r _ (crossing Saturating k (absolute (rest f)) d (pos 1) g) h (crossing-alike k (absolute_sum (rest f)) (absolute (rest f)) d (pos 1) g a (majorant-keepable k g m))))

@@ -5,10 +5,12 @@ use Rattle.std.proofs.lemmas.Int.{ints}
 use Rattle.std.proofs.lemmas.List.{drop_all, append-nil}
 use Rattle.std.proofs.lemmas.Bool.{le-leb}
 use Rattle.scattering.specs.Series.{Key, Sum, Same, key_eq, coef, unit, mul, pow}
+use Rattle.scattering.proofs.Lists.{Every-append}
+use Rattle.scattering.proofs.Pairing.{coef-append, skip-zero}
 use Rattle.trunc_series.specs.declared.arithmetic.Arithmetic.{Arithmetic}
 use Rattle.trunc_series.specs.Arithmetic.{kept, IsKeepable}
 use Rattle.trunc_series.proofs.Kept.{kept-zero, keepable-zero, keepable-add, keepable-mul, keepable-kept, kept-kept, kept-add_left}
-use Rattle.trunc_series.proofs.Coefficients.{Every-append, coef-append, skip-zero, add-zero}
+use Rattle.trunc_series.proofs.Coefficients.{add-zero}
 use Rattle.trunc_series.proofs.Rows.{mul-keepable}
 use Rattle.trunc_series.proofs.Congruence.{mul-comm}
 use Rattle.trunc_series.proofs.Associate.{mul-assoc}

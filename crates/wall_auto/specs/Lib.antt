@@ -1,7 +1,6 @@
 pub mod Sign
 pub mod Signs
-pub mod Expansion
 pub mod Crossed
+pub mod Expansion
 pub mod Known
-pub mod Worked
 pub mod Laws

@@ -1,12 +1,9 @@
 // The coefficients of (1 + u)^n in u, as far as powers of u count: lists of numbers, kept by a rule, the
 // number of u^0 first. A product is made by Horner's rule.
 
-ghost use Rattle.std.specs.Prelude.{◌≡◌, ◌≤◌, ◌+◌, ◌++◌, ℕ, ℤ, pos, neg_ℤ, nat_abs, length, replicate, ◌∷◌, ◌-◌, IfOk};
-ghost use Rattle.scattering.specs.Collections.{Every};
-ghost use Rattle.scattering.specs.Series.{Sum, degree, mul, pow, one};
+ghost use Rattle.std.specs.Prelude.{◌≡◌, ◌≤◌, pos, length, replicate, ◌∷◌, ◌-◌, IfOk};
 ghost use Rattle.trunc_series.specs.Arithmetic.{IsKeepable};
-ghost use Rattle.wall_auto.specs.Expansion.{AreKeepable, IsNilpotent, Expands, constant};
-ghost use Rattle.wall_auto.specs.Crossed.{base};
+ghost use Rattle.wall_auto.specs.Expansion.{AreKeepable, ExpandsStep, ExpandsProduct, ExpandsPower, ExpandsBase};
 ghost use Rattle.wall_auto.specs.Signs.{signs};
 
 use std::alloc::{AllocError, Global};
@@ -26,7 +23,7 @@ fn step(
     requires lengths { length out.now ≡ length b.now }
     ensures length { IfOk result (λ r. length r.items ≡ length b.now) }
     ensures numbers { IfOk result (λ r. AreKeepable rule r.items) }
-    ensures expands { IfOk result (λ r. (n : ℕ) (g f h : Sum) → IsNilpotent rule n g (length b.now) → Expands rule n g b.now f → Expands rule n g out.now h → Expands rule n g r.items (mul n (constant c.now) f ++ mul n g h)) }
+    ensures expands { IfOk result (λ r. ExpandsStep rule c.now b.now out.now r.items) }
 {
     let mut next = Vec::with_capacity(alloc, b.len())?;
     let mut carried = 0;
@@ -73,7 +70,7 @@ fn multiplied(
     requires right { AreKeepable rule b.now }
     ensures length { IfOk result (λ r. length r.items ≡ length b.now) }
     ensures numbers { IfOk result (λ r. AreKeepable rule r.items) }
-    ensures expands { IfOk result (λ r. (n : ℕ) (g f h : Sum) → IsNilpotent rule n g (length b.now) → Expands rule n g a.now f → Expands rule n g b.now h → Expands rule n g r.items (mul n f h)) }
+    ensures expands { IfOk result (λ r. ExpandsProduct rule a.now b.now r.items) }
 {
     let mut out = repeated(alloc, 0, b.len())?;
     let mut i = a.len();
@@ -109,7 +106,7 @@ pub fn powered(
     requires numbers { AreKeepable rule base.now }
     ensures length { IfOk result (λ r. length r.items ≡ count) }
     ensures numbers { IfOk result (λ r. AreKeepable rule r.items) }
-    ensures expands { IfOk result (λ r. (k : ℕ) (g f : Sum) → IsNilpotent rule k g count → Expands rule k g base.now f → Expands rule k g r.items (pow k f n)) }
+    ensures expands { IfOk result (λ r. ExpandsPower rule count base.now n r.items) }
 {
     if n == 0 {
         return one(alloc, count);
@@ -126,7 +123,7 @@ pub fn powered(
 /// where numbers saturate, of 1/(1 - u).
 pub fn base(alloc: Global, rule: Arithmetic, n: i64, count: usize) -> Result<Vec<i128>, AllocError>
     ensures numbers { IfOk result (λ r. AreKeepable rule r.items) }
-    ensures expands { IfOk result (λ r. (k : ℕ) (u : Sum) → IsNilpotent rule k u count → Every (λ t. 1 ≤ degree t.0) u → count ≤ k + 1 → Expands rule k u r.items (base rule k u n)) }
+    ensures expands { IfOk result (λ r. ExpandsBase rule n count r.items) }
 {
     match rule {
         Arithmetic::Saturating => repeated(alloc, 1, count),

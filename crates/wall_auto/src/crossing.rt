@@ -1,18 +1,16 @@
 // Crossings, term by term. Terms are taken by rising degree, so a power of the wall's function that was
 // made for one term reaches far enough for each later one with the same exponent.
 
-ghost use Rattle.std.specs.Prelude.{◌≡◌, ◌≤◌, ◌^◌, [], ◌∷◌, ◌*ℤ◌, nat_abs, IfOk, OnOk};
+ghost use Rattle.std.specs.Prelude.{◌≡◌, ◌≤◌, [], ◌∷◌, IfOk, OnOk};
 ghost use Rattle.scattering.specs.Collections.{Every};
-ghost use Rattle.scattering.specs.Series.{IsWallFunction, degree, mul, absolute, mass_to};
-ghost use Rattle.scattering.specs.LocalProduct.{cross, cross_majorant};
-ghost use Rattle.plane_geom.specs.Shown.{exp_of};
-ghost use Rattle.trunc_series.specs.Shown.{key_of, term_of, sum_of, IsNear, IsSeriesOf};
-ghost use Rattle.trunc_series.specs.Capped.{IsMajorantOf};
+ghost use Rattle.scattering.specs.Series.{IsWallFunction, degree};
+ghost use Rattle.plane_geom.specs.Shown.{vector_of};
+ghost use Rattle.trunc_series.specs.Shown.{key_of, term_of, sum_of, HasNearTerms};
 ghost use Rattle.trunc_series.specs.Arithmetic.{IsKeepable};
-ghost use Rattle.trunc_series.specs.Reduced.{IsReduced};
+ghost use Rattle.trunc_series.specs.Reduced.{IsKeptAs};
 ghost use Rattle.wall_auto.specs.Sign.{sign};
-ghost use Rattle.wall_auto.specs.Crossed.{crossing};
-ghost use Rattle.wall_auto.specs.Known.{IsPrepared, AreKnown};
+ghost use Rattle.wall_auto.specs.Known.{IsPrepared, IsCrossing, AreKnown};
+ghost use Rattle.wall_auto.specs.Laws.{IsLightAcross, Crosses, BoundsCrossing};
 
 use crate::Side;
 use crate::powers::{Wall, power, prepared};
@@ -31,11 +29,11 @@ fn image(
     t: &(Key, i128),
 ) -> Result<Vec<(Key, i128)>, AllocError>
     requires wall { IsPrepared wall.now }
-    requires near { IsNear (term_of t.now ∷ []) }
+    requires near { HasNearTerms (term_of t.now ∷ []) }
     requires keepable { IsKeepable wall.now.rule t.now.1 }
     requires low { degree (key_of t.now.0) ≤ wall.now.order }
     requires known { AreKnown wall.now (degree (key_of t.now.0)) known.old }
-    ensures image { IfOk result (λ r. IsReduced wall.now.rule wall.now.order (sum_of r.items) (crossing wall.now.rule wall.now.order (sum_of wall.now.others.items) (exp_of wall.now.dir) (sign wall.now.side) (term_of t.now ∷ []))) }
+    ensures image { IfOk result (λ r. IsCrossing wall.now (term_of t.now ∷ []) (sum_of r.items)) }
     ensures known { OnOk result (AreKnown wall.now (degree (key_of t.now.0)) known.new) }
 {
     let n = exponent(&wall.dir, wall.side, &t.0.exp);
@@ -57,12 +55,12 @@ fn images(
     d: u32,
 ) -> Result<Vec<(Key, i128)>, AllocError>
     requires wall { IsPrepared wall.now }
-    requires near { IsNear (sum_of part.now) }
+    requires near { HasNearTerms (sum_of part.now) }
     requires keepable { Every (λ t. IsKeepable wall.now.rule t.1) (sum_of part.now) }
     requires degrees { Every (λ t. degree t.0 ≡ d) (sum_of part.now) }
     requires low { d ≤ wall.now.order }
     requires known { AreKnown wall.now d known.old }
-    ensures images { IfOk result (λ r. IsReduced wall.now.rule wall.now.order (sum_of r.items) (crossing wall.now.rule wall.now.order (sum_of wall.now.others.items) (exp_of wall.now.dir) (sign wall.now.side) (sum_of part.now))) }
+    ensures images { IfOk result (λ r. IsCrossing wall.now (sum_of part.now) (sum_of r.items)) }
     ensures known { OnOk result (AreKnown wall.now d known.new) }
 {
     match part {
@@ -84,9 +82,9 @@ fn crossed(
     terms: &[(Key, i128)],
 ) -> Result<Vec<(Key, i128)>, AllocError>
     requires wall { IsPrepared wall.now }
-    requires near { IsNear (sum_of terms.now) }
-    requires reduced { IsReduced wall.now.rule wall.now.order (sum_of terms.now) (sum_of terms.now) }
-    ensures { IfOk result (λ r. IsReduced wall.now.rule wall.now.order (sum_of r.items) (crossing wall.now.rule wall.now.order (sum_of wall.now.others.items) (exp_of wall.now.dir) (sign wall.now.side) (sum_of terms.now))) }
+    requires near { HasNearTerms (sum_of terms.now) }
+    requires reduced { IsKeptAs wall.now.rule wall.now.order (sum_of terms.now) (sum_of terms.now) }
+    ensures { IfOk result (λ r. IsCrossing wall.now (sum_of terms.now) (sum_of r.items)) }
 {
     let mut known = BTreeMap::new(alloc);
     let mut out = Vec::new(alloc);
@@ -110,12 +108,12 @@ pub fn cross(
     function: &Series,
     side: Side,
 ) -> Result<Series, AllocError>
-    requires wall { IsWallFunction g.now.order (exp_of dir.now) function.now.terms }
+    requires wall { IsWallFunction g.now.order (vector_of dir.now) function.now.terms }
     requires order { function.now.order ≡ g.now.order }
-    requires near { IsNear g.now.terms }
-    requires near_function { IsNear function.now.terms }
-    requires mass { mass_to g.now.order (cross_majorant g.now.order (exp_of dir.now) function.now.terms (absolute g.now.terms)) ≤ 2 ^ 126 }
-    ensures { IfOk result (λ s. IsSeriesOf s g.now.order (cross g.now.order (exp_of dir.now) function.now.terms (sign side) g.now.terms)) }
+    requires near { HasNearTerms g.now.terms }
+    requires near_function { HasNearTerms function.now.terms }
+    requires mass { IsLightAcross (vector_of dir.now) function.now.terms g.now }
+    ensures { IfOk result (Crosses (vector_of dir.now) function.now.terms (sign side) g.now) }
 {
     let wall = prepared(alloc, Arithmetic::Wrapping, dir, side, function)?;
     let terms = crossed(alloc, &wall, g.terms())?;
@@ -129,11 +127,11 @@ pub fn cross_majorant(
     dir: &Direction,
     function: &Series,
 ) -> Result<Majorant, AllocError>
-    requires wall { IsWallFunction g.now.order (exp_of dir.now) function.now.terms }
+    requires wall { IsWallFunction g.now.order (vector_of dir.now) function.now.terms }
     requires order { function.now.order ≡ g.now.order }
-    requires near { IsNear g.now.terms }
-    requires near_function { IsNear function.now.terms }
-    ensures { IfOk result (λ m. IsMajorantOf m g.now.order (cross_majorant g.now.order (exp_of dir.now) function.now.terms g.now.terms)) }
+    requires near { HasNearTerms g.now.terms }
+    requires near_function { HasNearTerms function.now.terms }
+    ensures { IfOk result (BoundsCrossing (vector_of dir.now) function.now.terms g.now) }
 {
     let wall = prepared(alloc, Arithmetic::Saturating, dir, Side::Plus, function)?;
     let terms = crossed(alloc, &wall, g.terms())?;

@@ -11,8 +11,5 @@ mod powers;
 mod side;
 
 pub use crossing::{cross, cross_majorant};
-pub use laws::crossings_are_automorphisms;
+pub use laws::{crossings_are_automorphisms, majorants_test_crossings};
 pub use side::Side;
-
-#[cfg(test)]
-mod tests;

@@ -3,13 +3,13 @@
 ghost use Rattle.std.specs.Prelude.{◌≡◌, ◌≤◌, ◌+◌, ◌<◌, ◌^◌, ℕ, length, nat_abs, IfOk, pos};
 ghost use Rattle.scattering.specs.Collections.{Every};
 ghost use Rattle.scattering.specs.Series.{Key, Sum, coef, pow, IsWallFunction};
-ghost use Rattle.plane_geom.specs.Shown.{exp_of};
-ghost use Rattle.trunc_series.specs.Shown.{sum_of, IsNear, IsValid};
+ghost use Rattle.plane_geom.specs.Shown.{vector_of};
+ghost use Rattle.trunc_series.specs.Shown.{sum_of, HasNearTerms, IsValid};
 ghost use Rattle.trunc_series.specs.Arithmetic.{kept};
-ghost use Rattle.trunc_series.specs.Reduced.{IsReduced};
-ghost use Rattle.wall_auto.specs.Expansion.{AreKeepable, evaluated};
-ghost use Rattle.wall_auto.specs.Crossed.{code_others, factor};
-ghost use Rattle.wall_auto.specs.Known.{ArePowersFrom, ArePowers, IsOthers, IsPrepared};
+ghost use Rattle.trunc_series.specs.Reduced.{IsKeptAs};
+ghost use Rattle.wall_auto.specs.Expansion.{AreKeepable};
+ghost use Rattle.wall_auto.specs.Crossed.{code_others};
+ghost use Rattle.wall_auto.specs.Known.{ArePowers, IsOthers, IsPrepared, IsPowerOf, IsCombined};
 
 use crate::Side;
 use crate::coefficients::{base, powered};
@@ -75,11 +75,11 @@ pub fn prepared(
     side: Side,
     function: &Series,
 ) -> Result<Wall, AllocError>
-    requires wall { IsWallFunction function.now.order (exp_of dir.now) function.now.terms }
-    requires near { IsNear function.now.terms }
+    requires wall { IsWallFunction function.now.order (vector_of dir.now) function.now.terms }
+    requires near { HasNearTerms function.now.terms }
     ensures rule { IfOk result (λ w. w.rule ≡ rule) }
     ensures order { IfOk result (λ w. w.order ≡ function.now.order) }
-    ensures dir { IfOk result (λ w. exp_of w.dir ≡ exp_of dir.now) }
+    ensures dir { IfOk result (λ w. vector_of w.dir ≡ vector_of dir.now) }
     ensures side { IfOk result (λ w. w.side ≡ side) }
     ensures others { IfOk result (λ w. sum_of w.others.items ≡ code_others rule function.now.terms) }
     ensures prepared { IfOk result (λ w. IsPrepared w) }
@@ -109,7 +109,7 @@ fn combined(
     requires degree { degree ≤ wall.now.order }
     requires numbers { AreKeepable wall.now.rule coefficients.now }
     requires lengths { length coefficients.now ≤ length wall.now.powers.items }
-    ensures { IfOk result (λ r. IsReduced wall.now.rule degree (sum_of r.items) (evaluated degree (sum_of wall.now.others.items) coefficients.now)) }
+    ensures { IfOk result (λ r. IsCombined wall.now degree coefficients.now (sum_of r.items)) }
 {
     let mut total = Vec::new(alloc);
     for r in 0..coefficients.len() {
@@ -131,7 +131,7 @@ pub fn power(
     requires wall { IsPrepared wall.now }
     requires degree { degree ≤ wall.now.order }
     requires exponent { nat_abs n ≤ 2 ^ 29 }
-    ensures { IfOk result (λ r. IsReduced wall.now.rule degree (sum_of r.items) (factor wall.now.rule degree (sum_of wall.now.others.items) n)) }
+    ensures { IfOk result (λ r. IsPowerOf wall.now degree n (sum_of r.items)) }
 {
     let count = wall.powers.len().min(degree as usize + 1);
     let base = base(alloc, wall.rule, n, count)?;

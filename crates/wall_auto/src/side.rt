@@ -1,8 +1,9 @@
 // Which way a wall is crossed, and the exponent that a term's crossing gives its function.
 
 ghost use Rattle.std.specs.Prelude.{◌≡◌, ◌≤◌, ◌^◌, ◌*ℤ◌, nat_abs};
+ghost use Rattle.limits.specs.Limits.{largest_exponent};
 ghost use Rattle.scattering.specs.Series.{det};
-ghost use Rattle.plane_geom.specs.Shown.{exp_of as direction_of};
+ghost use Rattle.plane_geom.specs.Shown.{vector_of as direction_of};
 ghost use Rattle.trunc_series.specs.Shown.{exp_of};
 ghost use Rattle.wall_auto.specs.Sign.{sign};
 
@@ -20,7 +21,7 @@ pub enum Side {
 /// A product of a direction's number and an exponent's.
 fn product(a: i32, b: i32) -> i64
     requires left { nat_abs a ≤ 2 ^ 12 }
-    requires right { nat_abs b ≤ 2 ^ 16 }
+    requires right { nat_abs b ≤ largest_exponent }
     ensures value { result ≡ a *ℤ b }
     ensures bound { nat_abs result ≤ 2 ^ 28 }
 {
@@ -29,8 +30,8 @@ fn product(a: i32, b: i32) -> i64
 
 /// det(dir, m)
 fn determinant(dir: &Direction, m: &Exp) -> i64
-    requires a { nat_abs m.now.a ≤ 2 ^ 16 }
-    requires b { nat_abs m.now.b ≤ 2 ^ 16 }
+    requires a { nat_abs m.now.a ≤ largest_exponent }
+    requires b { nat_abs m.now.b ≤ largest_exponent }
     ensures value { result ≡ det (direction_of dir.now) (exp_of m.now) }
     ensures bound { nat_abs result ≤ 2 ^ 29 }
 {
@@ -39,8 +40,8 @@ fn determinant(dir: &Direction, m: &Exp) -> i64
 
 /// det(dir, m), or its opposite on the side of Minus.
 pub fn exponent(dir: &Direction, side: Side, m: &Exp) -> i64
-    requires a { nat_abs m.now.a ≤ 2 ^ 16 }
-    requires b { nat_abs m.now.b ≤ 2 ^ 16 }
+    requires a { nat_abs m.now.a ≤ largest_exponent }
+    requires b { nat_abs m.now.b ≤ largest_exponent }
     ensures value { result ≡ sign side *ℤ det (direction_of dir.now) (exp_of m.now) }
     ensures bound { nat_abs result ≤ 2 ^ 29 }
 {

@@ -1,24 +1,24 @@
 use Rattle.std.proofs.Common.{refl, sym, rules}
-use Rattle.frac_128.specs.Quotient.{IsReduced}
+use Rattle.frac_128.specs.Quotient.{AreReduced}
 use Rattle.frac_128.proofs.Sum.{sum-positive, sum-reduced, sum-needs, sum-suffices}
 use Rattle.frac_128.proofs.Seen.{reduced-seen, times-seen, added, fits-along, stored, positive-along, equal-to, refused}
 use Rattle.frac_128.proofs.Fraction.checked_add.Goals as goal
 
 pub returns-in_err-left-clause-fits : goal.returns-in_err-left-clause-fits
 returns-in_err-left-clause-fits c =
-    let r : IsReduced c.args.self.den c.args.other.den c.without_common_divisor-own.result.0 c.without_common_divisor-own.result.1 = reduced-seen _ _ _ _ (search rules) (search rules) c.without_common_divisor-own.ensures in
+    let r : AreReduced c.args.self.den c.args.other.den c.without_common_divisor-own.result.0 c.without_common_divisor-own.result.1 = reduced-seen _ _ _ _ (search rules) (search rules) c.without_common_divisor-own.ensures in
     let x = times-seen c.args.self.num c.without_common_divisor-own.result.1 (search rules) (search rules) in
     refused _ _ c.from_residual.ensures (λ h. c.in_err-left.ensures (fits-along _ _ (sym x) (sum-needs _ _ _ _ _ _ c.args.self.lowest c.args.other.lowest r h).left))
 
 pub returns-in_err-right-clause-fits : goal.returns-in_err-right-clause-fits
 returns-in_err-right-clause-fits c =
-    let r : IsReduced c.args.self.den c.args.other.den c.without_common_divisor-own.result.0 c.without_common_divisor-own.result.1 = reduced-seen _ _ _ _ (search rules) (search rules) c.without_common_divisor-own.ensures in
+    let r : AreReduced c.args.self.den c.args.other.den c.without_common_divisor-own.result.0 c.without_common_divisor-own.result.1 = reduced-seen _ _ _ _ (search rules) (search rules) c.without_common_divisor-own.ensures in
     let y = times-seen c.args.other.num c.without_common_divisor-own.result.0 (search rules) (search rules) in
     refused _ _ c.from_residual-in_err-right.ensures (λ h. c.in_err-right.ensures (fits-along _ _ (sym y) (sum-needs _ _ _ _ _ _ c.args.self.lowest c.args.other.lowest r h).right))
 
 pub returns-in_err-num-clause-fits : goal.returns-in_err-num-clause-fits
 returns-in_err-num-clause-fits c =
-    let r : IsReduced c.args.self.den c.args.other.den c.without_common_divisor-own.result.0 c.without_common_divisor-own.result.1 = reduced-seen _ _ _ _ (search rules) (search rules) c.without_common_divisor-own.ensures in
+    let r : AreReduced c.args.self.den c.args.other.den c.without_common_divisor-own.result.0 c.without_common_divisor-own.result.1 = reduced-seen _ _ _ _ (search rules) (search rules) c.without_common_divisor-own.ensures in
     let x = times-seen c.args.self.num c.without_common_divisor-own.result.1 (search rules) (search rules) in
     let y = times-seen c.args.other.num c.without_common_divisor-own.result.0 (search rules) (search rules) in
     let n = added c.in_ok-left.left c.in_ok-right.right _ _ c.in_ok-left.ensures c.in_ok-right.ensures x y in
@@ -26,19 +26,19 @@ returns-in_err-num-clause-fits c =
 
 pub returns-in_err-den-clause-fits : goal.returns-in_err-den-clause-fits
 returns-in_err-den-clause-fits c =
-    let r : IsReduced c.args.self.den c.args.other.den c.without_common_divisor-own.result.0 c.without_common_divisor-own.result.1 = reduced-seen _ _ _ _ (search rules) (search rules) c.without_common_divisor-own.ensures in
+    let r : AreReduced c.args.self.den c.args.other.den c.without_common_divisor-own.result.0 c.without_common_divisor-own.result.1 = reduced-seen _ _ _ _ (search rules) (search rules) c.without_common_divisor-own.ensures in
     let z = times-seen c.args.self.den c.without_common_divisor-own.result.1 (search rules) (search rules) in
     refused _ _ c.from_residual-in_err-den.ensures (λ h. c.in_err-den.ensures (fits-along _ _ (sym z) (sum-needs _ _ _ _ _ _ c.args.self.lowest c.args.other.lowest r h).denominator))
 
 pub new-requires : goal.new-requires
 new-requires c =
-    let r : IsReduced c.args.self.den c.args.other.den c.without_common_divisor-own.result.0 c.without_common_divisor-own.result.1 = reduced-seen _ _ _ _ (search rules) (search rules) c.without_common_divisor-own.ensures in
+    let r : AreReduced c.args.self.den c.args.other.den c.without_common_divisor-own.result.0 c.without_common_divisor-own.result.1 = reduced-seen _ _ _ _ (search rules) (search rules) c.without_common_divisor-own.ensures in
     let z = times-seen c.args.self.den c.without_common_divisor-own.result.1 (search rules) (search rules) in
     positive-along _ _ (stored _ _ _ c.in_ok-den.ensures.0 c.in_ok-den.ensures.1 z) (sum-positive _ _ _ _ _ _ c.args.self.lowest c.args.other.lowest r)
 
 pub returns-clause-sum : goal.returns-clause-sum
 returns-clause-sum c =
-    let r : IsReduced c.args.self.den c.args.other.den c.without_common_divisor-own.result.0 c.without_common_divisor-own.result.1 = reduced-seen _ _ _ _ (search rules) (search rules) c.without_common_divisor-own.ensures in
+    let r : AreReduced c.args.self.den c.args.other.den c.without_common_divisor-own.result.0 c.without_common_divisor-own.result.1 = reduced-seen _ _ _ _ (search rules) (search rules) c.without_common_divisor-own.ensures in
     let x = times-seen c.args.self.num c.without_common_divisor-own.result.1 (search rules) (search rules) in
     let y = times-seen c.args.other.num c.without_common_divisor-own.result.0 (search rules) (search rules) in
     let n = added c.in_ok-left.left c.in_ok-right.right _ _ c.in_ok-left.ensures c.in_ok-right.ensures x y in
@@ -48,7 +48,7 @@ returns-clause-sum c =
 
 pub returns-clause-fits : goal.returns-clause-fits
 returns-clause-fits c =
-    let r : IsReduced c.args.self.den c.args.other.den c.without_common_divisor-own.result.0 c.without_common_divisor-own.result.1 = reduced-seen _ _ _ _ (search rules) (search rules) c.without_common_divisor-own.ensures in
+    let r : AreReduced c.args.self.den c.args.other.den c.without_common_divisor-own.result.0 c.without_common_divisor-own.result.1 = reduced-seen _ _ _ _ (search rules) (search rules) c.without_common_divisor-own.ensures in
     let x = times-seen c.args.self.num c.without_common_divisor-own.result.1 (search rules) (search rules) in
     let y = times-seen c.args.other.num c.without_common_divisor-own.result.0 (search rules) (search rules) in
     let n = added c.in_ok-left.left c.in_ok-right.right _ _ c.in_ok-left.ensures c.in_ok-right.ensures x y in

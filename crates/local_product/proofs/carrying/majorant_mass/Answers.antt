@@ -2,7 +2,7 @@ use Rattle.std.proofs.Common.{ℕ, List, subst, sym, arith}
 use Rattle.std.proofs.lemmas.List.{take_all}
 use Rattle.scattering.specs.Series.{absolute, monomial, z, IsWallFunction}
 use Rattle.scattering.specs.LocalProduct.{cross_majorant, carry_majorant}
-use Rattle.plane_geom.specs.Shown.{exp_of as direction_of}
+use Rattle.plane_geom.specs.Shown.{vector_of as direction_of}
 use Rattle.trunc_series.specs.Capped.{IsMajorantOf}
 use Rattle.trunc_series.specs.Shown.{exp_of, IsSeriesOf}
 use Rattle.local_product.specs.declared.half_walls.HalfWall.{HalfWall}

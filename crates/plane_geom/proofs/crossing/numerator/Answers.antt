@@ -1,6 +1,7 @@
 use Rattle.std.proofs.Common.{◌∙◌}
 use lib.IntN.{*ℤ_comm}
-use Rattle.plane_geom.proofs.Casts.{minus-is, minus-fits, minus-bound94, larger, minor-read, scaled-read, minus-same, times-same}
+use Rattle.plane_geom.proofs.Casts.{minus-is, minus-fits, minus-bound94, larger, minor-read, scaled-read, times-same}
+use Rattle.sum_algebra.proofs.Integers.{minus-same}
 use Rattle.plane_geom.proofs.crossing.numerator.Goals as goal
 
 pub returns-clause-value : goal.returns-clause-value

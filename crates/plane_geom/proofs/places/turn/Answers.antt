@@ -1,5 +1,6 @@
 use Rattle.std.proofs.Common.{◌∙◌}
-use Rattle.plane_geom.proofs.Casts.{minus-is, minus-fits, larger, minor-read, scaled-read, minus-same, times-same}
+use Rattle.plane_geom.proofs.Casts.{minus-is, minus-fits, larger, minor-read, scaled-read, times-same}
+use Rattle.sum_algebra.proofs.Integers.{minus-same}
 use Rattle.plane_geom.proofs.places.turn.Goals as goal
 
 pub overflow_sub-result : goal.overflow_sub-result

@@ -1,7 +1,10 @@
-use Rattle.std.proofs.Common.{◌≢◌, ◌+◌, [], ◌∷◌, ◌++◌, take, arith, rules, refl, sym, ap, ◌∙◌, subst, to_z, of_z, FitsSigned}
+use Rattle.std.proofs.Common.{◌≢◌, ◌+◌, [], ◌∷◌, ◌++◌, take, rules, refl, sym, ap, ◌∙◌, subst, to_z, of_z, FitsSigned}
 use Rattle.std.specs.Int.{w128}
 use Rattle.std.proofs.lemmas.Int.{to_z-of_z}
 use Rattle.scattering.specs.Correction.{Lie}
+use Rattle.std.specs.Prelude.{ℤ, nat_abs, ◌≤◌}
+use Rattle.limits.specs.Limits.{largest_weight}
+use Rattle.weight_theory.specs.Laws.{IsWholeValue}
 use Rattle.ray_merge.specs.Additions.{AreAdded}
 use Rattle.trunc_series.proofs.Terms.{sum_of-append}
 use Rattle.std.proofs.lemmas.List.{take_all}
@@ -11,7 +14,7 @@ use Rattle.scattering.specs.Correction.{IsWhole}
 use Rattle.scattering.proofs.Lists.{Every-at}
 use Rattle.trunc_series.specs.Shown.{key_of, sum_of}
 use Rattle.vertex_lie.specs.Shown.{coefficient_of, lie_of}
-use Rattle.ray_merge.proofs.Values.{whole-with, lie-in, lie-more, added-push, added-nonzero}
+use Rattle.ray_merge.proofs.Values.{lie-in, lie-more, added-push, added-nonzero}
 use Rattle.ray_merge.proofs.additions.added_terms.Goals as goal
 
 pub added_value-requires-clause-exponent : goal.added_value-requires-clause-exponent
@@ -25,10 +28,7 @@ added_value-requires-clause-whole c =
 pub added_value-requires-clause-small : goal.added_value-requires-clause-small
 added_value-requires-clause-small c v x =
     let i = subst (In (coefficient_of c.t-item.result)) c.terms-terms.ensures.terms (lie-in c.terms-terms.result.now c.loop-t.t-index c.t-item.result c.loop-t-test.true c.t-item.is) in
-    let w = whole-with c.args.h.now c.requires.whole c.terms-terms.ensures.element.exponents (coefficient_of c.t-item.result) i v x in
-    let l = c.requires.light w.0 w.1 in
-    let m = w.2 in
-    omega (arith, l, m)
+    Every-at (λ t. (v : ℤ) → IsWholeValue t v → nat_abs v ≤ largest_weight) c.args.h.now (coefficient_of c.t-item.result) c.requires.light i v x
 
 pub loop-t-preserved : goal.loop-t-preserved
 loop-t-preserved c =

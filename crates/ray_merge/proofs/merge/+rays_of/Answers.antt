@@ -1,29 +1,29 @@
 use Rattle.std.proofs.Common.{ℕ, ◌/◌, length, arith, subst}
 use Rattle.std.proofs.lemmas.Result.{IfOk-weaker}
-use Rattle.scattering.specs.Series.{mass_to}
 use Rattle.scattering.specs.Wall.{IsWall}
 use Rattle.trunc_series.specs.Shown.{term_of, sum_of}
 use Rattle.trunc_series.proofs.Terms.{at, sum_of-halves}
+use Rattle.trunc_series.proofs.Factors.{alone}
 use Rattle.plane_geom.specs.Shown.{point_of}
 use Rattle.scatter_diagram.specs.Shown.{wall_of, walls_of}
 use Rattle.scatter_diagram.proofs.Walls.{is-wall}
-use Rattle.ray_merge.specs.Additions.{IsTermOf}
-use Rattle.ray_merge.specs.Rays.{AreLoads}
+use Rattle.ray_merge.specs.Additions.{IsRayTerm}
+use Rattle.ray_merge.specs.Rays.{AreLoads, mass_along}
 use Rattle.ray_merge.proofs.RayLists.{up-to}
-use Rattle.ray_merge.proofs.Terms.{CountsTerms, one-term, joinable, both-terms, has-terms, single, halves-each, halves-apart, halves-mass}
+use Rattle.ray_merge.proofs.Terms.{CountsTerms, one-term, joinable, both-terms, has-terms, halves-each, halves-apart, halves-light, loads-of-halves}
 use Rattle.ray_merge.proofs.merge.+rays_of.Goals as goal
 
 pub rays_of-requires : goal.rays_of-requires
 rays_of-requires t c =
-    let m = halves-mass c.args.order c.args.terms.now (length c.args.terms.now / 2) in (
+    let m = halves-light c.args.order c.args.terms.now (length c.args.terms.now / 2) c.requires.light in (
       omega (arith, c.split_at.ensures.front_len),
       (
         c.requires.some,
         (
           c.requires.order,
           (
-            rw c.split_at.ensures.front (halves-each (IsTermOf c.args.order) c.args.terms.now (length c.args.terms.now / 2) c.requires.each).0,
-            (rw c.split_at.ensures.front (halves-apart c.args.terms.now (length c.args.terms.now / 2) c.requires.distinct).0, rw c.split_at.ensures.front (omega (arith, m, c.requires.light))),
+            rw c.split_at.ensures.front (halves-each (IsRayTerm c.args.order) c.args.terms.now (length c.args.terms.now / 2) c.requires.each).0,
+            (rw c.split_at.ensures.front (halves-apart c.args.terms.now (length c.args.terms.now / 2) c.requires.distinct).0, rw c.split_at.ensures.front m.0),
           ),
         ),
       ),
@@ -31,15 +31,15 @@ rays_of-requires t c =
 
 pub rays_of-requires-in_default : goal.rays_of-requires-in_default
 rays_of-requires-in_default t c =
-    let m = halves-mass c.args.order c.args.terms.now (length c.args.terms.now / 2) in (
+    let m = halves-light c.args.order c.args.terms.now (length c.args.terms.now / 2) c.requires.light in (
       omega (arith, c.split_at.ensures.back_len),
       (
         c.requires.some,
         (
           c.requires.order,
           (
-            rw c.split_at.ensures.back (halves-each (IsTermOf c.args.order) c.args.terms.now (length c.args.terms.now / 2) c.requires.each).1,
-            (rw c.split_at.ensures.back (halves-apart c.args.terms.now (length c.args.terms.now / 2) c.requires.distinct).1, rw c.split_at.ensures.back (omega (arith, m, c.requires.light))),
+            rw c.split_at.ensures.back (halves-each (IsRayTerm c.args.order) c.args.terms.now (length c.args.terms.now / 2) c.requires.each).1,
+            (rw c.split_at.ensures.back (halves-apart c.args.terms.now (length c.args.terms.now / 2) c.requires.distinct).1, rw c.split_at.ensures.back m.1),
           ),
         ),
       ),
@@ -62,8 +62,13 @@ merged_rays-requires-clause-joinable t c =
 
 pub returns-in_ok-vec-in-len1-clause-terms : goal.returns-in_ok-vec-in-len1-clause-terms
 returns-in_ok-vec-in-len1-clause-terms t c =
-    rw (c.in_ok-vec-in-len1.ensures.items, single c.args.terms.now c.in-len1.len_at_least c.in-len1.len_below)
+    rw (c.in_ok-vec-in-len1.ensures.items, alone c.args.terms.now c.in-len1.len_at_least c.in-len1.len_below)
     (one-term c.args.order (point_of c.args.at.now) (term_of (at c.args.terms.now 0)) (wall_of c.in_ok-ray_of-in-len1.field-0) (subst (λ (n : ℕ). IsWall n (wall_of c.in_ok-ray_of-in-len1.field-0)) c.in_ok-ray_of-in-len1.ensures.order (is-wall c.in_ok-ray_of-in-len1.field-0)) c.in_ok-ray_of-in-len1.ensures.wall).terms
+
+pub returns-in_ok-vec-in-len1-clause-loads : goal.returns-in_ok-vec-in-len1-clause-loads
+returns-in_ok-vec-in-len1-clause-loads t c =
+    rw (c.in_ok-vec-in-len1.ensures.items, alone c.args.terms.now c.in-len1.len_at_least c.in-len1.len_below)
+    (one-term c.args.order (point_of c.args.at.now) (term_of (at c.args.terms.now 0)) (wall_of c.in_ok-ray_of-in-len1.field-0) (subst (λ (n : ℕ). IsWall n (wall_of c.in_ok-ray_of-in-len1.field-0)) c.in_ok-ray_of-in-len1.ensures.order (is-wall c.in_ok-ray_of-in-len1.field-0)) c.in_ok-ray_of-in-len1.ensures.wall).loads
 
 pub returns-in_ok-right-in_default-clause-terms : goal.returns-in_ok-right-in_default-clause-terms
 returns-in_ok-right-in_default-clause-terms t c =
@@ -75,7 +80,7 @@ returns-in_ok-right-in_default-clause-terms t c =
 
 pub returns-in_ok-right-in_default-clause-loads : goal.returns-in_ok-right-in_default-clause-loads
 returns-in_ok-right-in_default-clause-loads t c =
-    IfOk-weaker c.merged_rays.result _ (λ r. AreLoads c.args.order (mass_to c.args.order (sum_of c.args.terms.now)) (walls_of r.items))
-    (λ r h. rw (halves-mass c.args.order c.args.terms.now (length c.args.terms.now / 2), ← c.split_at.ensures.front, ← c.split_at.ensures.back)
-    (h (mass_to c.args.order (sum_of c.split_at.result.0.now)) (mass_to c.args.order (sum_of c.split_at.result.1.now)) (rw c.as_slice.ensures.value c.in_ok-left-in_default.ensures.loads) (rw c.as_slice-in_default.ensures.value c.in_ok-right-in_default.ensures.loads)))
+    IfOk-weaker c.merged_rays.result _ (λ r. AreLoads c.args.order (mass_along c.args.order (sum_of c.args.terms.now)) (walls_of r.items))
+    (λ r h. loads-of-halves c.args.order c.args.terms.now (length c.args.terms.now / 2) (walls_of r.items) (rw (c.split_at.ensures.front, c.split_at.ensures.back) at
+    (h (mass_along c.args.order (sum_of c.split_at.result.0.now)) (mass_along c.args.order (sum_of c.split_at.result.1.now)) (rw c.as_slice.ensures.value c.in_ok-left-in_default.ensures.loads) (rw c.as_slice-in_default.ensures.value c.in_ok-right-in_default.ensures.loads))))
     c.merged_rays.ensures.loads

@@ -1,16 +1,16 @@
-use Rattle.std.proofs.Common.{◌≡◌, ◌≢◌, ◌+◌, ◌++◌, List, ◌∷◌, map, drop, sym, subst, ap, ◌∙◌}
+use Rattle.std.proofs.Common.{◌≡◌, ◌≢◌, ◌+◌, ◌++◌, List, ◌∷◌, drop, sym, subst, ap, ◌∙◌}
 use Rattle.std.proofs.lemmas.List.{drop_all}
-use Rattle.scattering.specs.Collections.{In, Every, EveryPair}
-use Rattle.scattering.specs.Series.{degree, origin}
+use Rattle.scattering.specs.Collections.{Every, EveryPair}
+use Rattle.scattering.specs.Series.{Sum, degree, origin}
 use Rattle.scattering.specs.Wall.{Wall}
 use Rattle.scattering.specs.Plane.{Point}
 use Rattle.scattering.specs.Correction.{Lie, Corrections, IsWhole}
-use Rattle.scattering.proofs.Lists.{Every-at, Every-append, In-mapped, map-append}
+use Rattle.scattering.proofs.Lists.{Every-at, Every-append, map-append}
 use Rattle.plane_geom.specs.Shown.{point_of}
 use Rattle.scatter_diagram.specs.Shown.{wall_of, walls_of}
-use Rattle.ray_merge.specs.Additions.{IsTame, IsLight, corrections_of}
+use Rattle.ray_merge.specs.Additions.{AreAdded, IsTameElement, IsLight, IsLightAlong, corrections_of}
 use Rattle.ray_merge.specs.Rays.{HasNewTerms}
-use Rattle.ray_merge.proofs.Collecting.{AddsUp, AreBefore, adds-more, adds-all, before-others, starts-more, corrections-drop, sorted-after, correction-in, rays-more}
+use Rattle.ray_merge.proofs.Collecting.{AddsUp, AreBefore, adds-more, adds-all, before-others, corrections-drop, sorted-after, correction-in, new-among, rays-more}
 use Rattle.ray_merge.proofs.merge.added_rays.Goals as goal
 
 pub rays_at-requires-clause-addable : goal.rays_at-requires-clause-addable
@@ -24,11 +24,16 @@ rays_at-requires-clause-addable c =
 
 pub rays_at-requires-clause-tame : goal.rays_at-requires-clause-tame
 rays_at-requires-clause-tame c =
-    Every-at (λ b. IsTame c.args.order b.1) (corrections_of c.args.corrections.now) _ c.requires.tame (correction-in c.args.corrections.now c.loop-correction.correction-index c.correction-item.result c.loop-correction-test.true c.correction-item.is)
+    Every-at (λ b. IsTameElement c.args.order b.1) (corrections_of c.args.corrections.now) _ c.requires.tame (correction-in c.args.corrections.now c.loop-correction.correction-index c.correction-item.result c.loop-correction-test.true c.correction-item.is)
 
 pub rays_at-requires-clause-light : goal.rays_at-requires-clause-light
 rays_at-requires-clause-light c =
     Every-at (λ b. IsLight b.1) (corrections_of c.args.corrections.now) _ c.requires.light (correction-in c.args.corrections.now c.loop-correction.correction-index c.correction-item.result c.loop-correction-test.true c.correction-item.is)
+
+pub rays_at-requires-clause-within : goal.rays_at-requires-clause-within
+rays_at-requires-clause-within c =
+    Every-at (λ b. (f : Sum) → AreAdded b.1 f → IsLightAlong c.args.order f) (corrections_of c.args.corrections.now) _ c.requires.within
+    (correction-in c.args.corrections.now c.loop-correction.correction-index c.correction-item.result c.loop-correction-test.true c.correction-item.is)
 
 pub loop-correction-preserved : goal.loop-correction-preserved
 loop-correction-preserved c =
@@ -43,11 +48,10 @@ loop-correction-preserved c =
     record {
       rays = rays-more c.args.order c.loop-correction.out.items c.in_ok-rays.rays.items _ here after c.in_ok-append.ensures.items c.loop-correction.invariant.rays c.in_ok-rays.ensures.rays before c.in_ok-rays.ensures.starts;
       before = subst (λ (ws : List Wall). AreBefore ws after) (sym all) (before-others here after (walls_of c.loop-correction.out.items) (walls_of c.in_ok-rays.rays.items) before c.in_ok-rays.ensures.starts sorted);
-      starts = subst (Every (λ (w : Wall). In w.at (map (λ c. c.0) cs))) (sym all)
-          (starts-more (map (λ c. c.0) cs) here (walls_of c.loop-correction.out.items) (walls_of c.in_ok-rays.rays.items) (In-mapped (λ c. c.0) cs here i) c.loop-correction.invariant.starts c.in_ok-rays.ensures.starts);
       added = subst (AddsUp cs after) (sym all) (adds-more cs here after (walls_of c.loop-correction.out.items) (walls_of c.in_ok-rays.rays.items) sorted
           (subst (λ (others : Corrections). AddsUp cs others (walls_of c.loop-correction.out.items)) split c.loop-correction.invariant.added) c.in_ok-rays.ensures.added);
-      terms = subst (Every (HasNewTerms c.args.order)) (sym all) (Every-append (HasNewTerms c.args.order) (walls_of c.loop-correction.out.items) (walls_of c.in_ok-rays.rays.items) c.loop-correction.invariant.terms c.in_ok-rays.ensures.terms);
+      terms = subst (Every (HasNewTerms c.args.order cs)) (sym all)
+          (Every-append (HasNewTerms c.args.order cs) (walls_of c.loop-correction.out.items) (walls_of c.in_ok-rays.rays.items) c.loop-correction.invariant.terms (new-among c.args.order here cs (walls_of c.in_ok-rays.rays.items) i c.in_ok-rays.ensures.terms));
     }
 
 pub returns-clause-added : goal.returns-clause-added

@@ -1,5 +1,5 @@
-use Rattle.std.proofs.Common.{drop, map}
-use Rattle.scattering.specs.Collections.{In, Every}
+use Rattle.std.proofs.Common.{drop}
+use Rattle.scattering.specs.Collections.{Every}
 use Rattle.scatter_diagram.specs.Shown.{walls_of}
 use Rattle.scatter_diagram.specs.Listed.{AreRays}
 use Rattle.ray_merge.specs.Additions.{corrections_of}
@@ -11,7 +11,6 @@ abbrev pub invariant-loop-correction : goal.invariant-loop-correction
 invariant-loop-correction l = record {
   rays : AreRays l.order l.out.items;
   before : AreBefore (walls_of l.out.items) (corrections_of (drop l.correction-index l.corrections));
-  starts : Every (λ w. In w.at (map (λ c. c.0) (corrections_of l.corrections))) (walls_of l.out.items);
   added : AddsUp (corrections_of l.corrections) (corrections_of (drop l.correction-index l.corrections)) (walls_of l.out.items);
-  terms : Every (HasNewTerms l.order) (walls_of l.out.items);
+  terms : Every (HasNewTerms l.order (corrections_of l.corrections)) (walls_of l.out.items);
 }

@@ -4,9 +4,9 @@ use Rattle.scattering.specs.Series.{Sum, key_eq, rest, unit}
 use Rattle.scattering.proofs.DistinctKeys.{rising-distinct}
 use Rattle.trunc_series.specs.declared.arithmetic.Arithmetic.TheVariants.{Wrapping}
 use Rattle.trunc_series.specs.declared.key.Key.{Key as CodeKey}
-use Rattle.trunc_series.specs.Reduced.{IsReduced}
+use Rattle.trunc_series.specs.Reduced.{IsKeptAs}
 use Rattle.trunc_series.specs.Shown.{key_of, sum_of}
-use Rattle.ray_merge.proofs.Functions.{terms-own}
+use Rattle.trunc_series.proofs.Terms.{terms-own}
 use Rattle.ray_merge.proofs.Walls.{others-rest, joined-made, joined-series, joined-proper, joined-wall}
 use Rattle.ray_merge.proofs.ray.joined.Goals as goal
 
@@ -15,8 +15,8 @@ passed : (slice items ts : List (CodeKey × ℤ)) (g : Sum) → slice ≡ items 
 passed slice items ts g e h p = ap sum_of (e ∙ h) ∙ others-rest ts ∙ ap rest p
 
 -- the merge of the lists that are passed
-merged-of : (a b : Sum) (f g : Sum) (r : Sum) → a ≡ f → b ≡ g → ((m : ℕ) (u v : Sum) → IsReduced Wrapping m a u → IsReduced Wrapping m b v → IsReduced Wrapping m r (u ++ v)) → (m : ℕ) (u v : Sum) → IsReduced Wrapping m f u → IsReduced Wrapping m g v → IsReduced Wrapping m r (u ++ v)
-merged-of a b f g r e q h m u v x y = h m u v (subst (λ (s : Sum). IsReduced Wrapping m s u) (sym e) x) (subst (λ (s : Sum). IsReduced Wrapping m s v) (sym q) y)
+merged-of : (a b : Sum) (f g : Sum) (r : Sum) → a ≡ f → b ≡ g → ((m : ℕ) (u v : Sum) → IsKeptAs Wrapping m a u → IsKeptAs Wrapping m b v → IsKeptAs Wrapping m r (u ++ v)) → (m : ℕ) (u v : Sum) → IsKeptAs Wrapping m f u → IsKeptAs Wrapping m g v → IsKeptAs Wrapping m r (u ++ v)
+merged-of a b f g r e q h m u v x y = h m u v (subst (λ (s : Sum). IsKeptAs Wrapping m s u) (sym e) x) (subst (λ (s : Sum). IsKeptAs Wrapping m s v) (sym q) y)
 
 pub from_terms-requires-clause-distinct : goal.from_terms-requires-clause-distinct
 from_terms-requires-clause-distinct c = rw c.as_slice-2.ensures.value (rising-distinct (sum_of c.in_ok-terms.terms.items) (joined-made c.args.r.now c.args.s.now c.args.order c.requires.left c.requires.right c.requires.dir c.requires.joinable (sum_of c.in_ok-terms.terms.items) c.requires.order c.terms-2.ensures.valid c.terms.ensures.valid (merged-of _ _ _ _ _ c.terms-2.ensures.terms (passed _ _ _ _ c.as_slice.ensures.value c.in_ok-more.ensures c.terms.ensures.terms) c.in_ok-terms.ensures)).0.series.rises)

@@ -1,6 +1,5 @@
 -- The text of the last completion ends as its first stop says.
-use Rattle.std.proofs.Common.{◌≡◌, ℕ, sym, subst, ap, ◌∙◌, List}
-use Rattle.std.specs.Prelude.{string_bytes}
+use Rattle.std.proofs.Common.{ℕ, subst}
 use Rattle.scatter_diagram.specs.Listed.{SeenDiagram}
 use Rattle.scatter_diagram.specs.Stopped.{stop_of}
 use Rattle.scatter_text.specs.DiagramText.{IsDiagramText}
@@ -13,7 +12,7 @@ pub returns : goal.returns
 returns c =
     let stop = c.in_ok-outcome.outcome.stop in
     let last = c.in_ok-outcome.outcome.last in
-    let text = string_bytes c.in_ok-text.text in
+    let text = c.in_ok-text.text.items in
     let printed : IsDiagramText c.in_ok-initial.initial.vars last.order last.diagram (stop_of stop) text =
     subst (λ (e : SeenDiagram). IsDiagramText c.in_ok-initial.initial.vars e.order e.diagram (stop_of stop) text) c.diagram.ensures.value
     (subst (λ (n : ℕ). IsDiagramText n c.diagram.result.now.order c.diagram.result.now.diagram (stop_of stop) text) c.vars.ensures.value c.in_ok-text.ensures) in

@@ -1,23 +1,29 @@
 -- The job's promises are those of its words.
-use Rattle.scatter_run.proofs.Outcomes.{complete_for, part_for, part_of_words}
-use Rattle.scatter_run.proofs.OneOutcome.{written-one, outcome_for, words_outcome}
+use Rattle.scatter_run.specs.Words.{word_bytes}
+use Rattle.scatter_run.specs.contracts.words.Job as made
+use Rattle.scatter_run.specs.declared.words.Job.{Job}
+use Rattle.scatter_run.proofs.Promises.{complete_words_kept, words_kept}
+use Rattle.std.proofs.Common.{refl}
+use borrow.Enum.Total.{values_d}
+use Rattle.scatter_run.proofs.OneOutcome.{written-one}
 use Rattle.scatter_run.proofs.jobs.run.Goals as goal
 
-pub returns-in-Some-clause-complete : goal.returns-in-Some-clause-complete
-returns-in-Some-clause-complete g c = complete_for _ c.in-Some.job.order c.in-Some.job.workers (g.S.Source.left c.args.source.now) _ _ _ _ c.complete_job.result c.in-Some.ensures.job c.complete_job.ensures.complete
+pub returns-in-Some-Complete-clause-promise : goal.returns-in-Some-Complete-clause-promise
+returns-in-Some-Complete-clause-promise g c =
+    complete_words_kept (word_bytes c.args.words.now) (λ (j : Job). (values_d made.enum 0 (0, (0, tt {0})) j).0) c.in-Some-Complete.field-0 _ _ _ _ _ _ _ _ c.complete_job.result
+    (λ order workers. refl) c.in-Some-Complete.ensures.job c.complete_job.ensures.promise
 
-pub returns-in-Some-clause-write_text : goal.returns-in-Some-clause-write_text
-returns-in-Some-clause-write_text g c = λ e. part_for _ c.in-Some.job.order c.in-Some.job.workers _ _ _ _ _ _ c.in-Some.ensures.job (c.complete_job.ensures.write_text e)
+pub returns-in-Some-Complete-clause-one : goal.returns-in-Some-Complete-clause-one
+returns-in-Some-Complete-clause-one g c =
+    written-one (word_bytes c.args.words.now) (g.S.Source.left c.args.source.now) _ _ c.complete_job.result
+    (complete_words_kept (word_bytes c.args.words.now) (λ (j : Job). (values_d made.enum 0 (0, (0, tt {0})) j).0) c.in-Some-Complete.field-0 _ _ _ _ _ _ _ _ c.complete_job.result
+    (λ order workers. refl) c.in-Some-Complete.ensures.job c.complete_job.ensures.promise).outcome
 
-pub returns-in-Ok-clause-write_text : goal.returns-in-Ok-clause-write_text
-returns-in-Ok-clause-write_text g c = λ e. part_of_words _ _ _ _ _ _ _ _ _ c.in-Ok.answer.status c.give.result _ c.in-None.ensures.none c.in-Ok.ensures.status c.in-Ok.ensures.text c.give.ensures e
+pub returns-in-None-clause-promise : goal.returns-in-None-clause-promise
+returns-in-None-clause-promise g c = words_kept (word_bytes c.args.words.now) _ _ _ _ _ _ c.give.result c.requires.sink c.in-None.ensures.none c.give.ensures.given
 
-pub returns-in-Some-clause-one : goal.returns-in-Some-clause-one
-returns-in-Some-clause-one g c =
-    written-one _ (g.S.Source.left c.args.source.now) _ _ c.complete_job.result
-    (outcome_for _ c.in-Some.job.order c.in-Some.job.workers (g.S.Source.left c.args.source.now) _ _ c.complete_job.result c.in-Some.ensures.job c.complete_job.ensures.outcome)
-
-pub returns-in-Ok-clause-one : goal.returns-in-Ok-clause-one
-returns-in-Ok-clause-one g c =
-    written-one _ (g.S.Source.left c.args.source.now) _ _ c.give.result
-    (words_outcome _ (g.S.Source.left c.args.source.now) _ _ _ _ c.in-Ok.answer.status c.give.result _ c.in-None.ensures.none c.in-Ok.ensures.status c.in-Ok.ensures.text c.give.ensures)
+pub returns-in-None-clause-one : goal.returns-in-None-clause-one
+returns-in-None-clause-one g c =
+    written-one (word_bytes c.args.words.now) (g.S.Source.left c.args.source.now) _ _ c.give.result
+    (words_kept (word_bytes c.args.words.now) (g.S.Source.left c.args.source.now) (g.S.Source.faults c.args.source.now) (g.K.Sink.held c.args.sink.now)
+    (g.K.Sink.held c.give.new.sink) (g.K.Sink.faults c.args.sink.now) (g.K.Sink.faults c.give.new.sink) c.give.result c.requires.sink c.in-None.ensures.none c.give.ensures.given).outcome

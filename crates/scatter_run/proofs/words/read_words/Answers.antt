@@ -1,12 +1,13 @@
 -- The three words, one by one.
-use Rattle.std.proofs.Common.{◌≡◌, ◌≤◌, ◌<◌, ℕ, List, [], ◌∷◌, sym, ap, ◌∙◌, arith}
+use Rattle.std.proofs.Common.{◌≡◌, ◌+◌, ◌≤◌, ◌<◌, ℕ, List, [], ◌∷◌, sym, ap, ◌∙◌, arith}
 use Rattle.std.specs.Prelude.{String, string_bytes, codes, decimal}
 use Rattle.std.specs.declared.alloc.Global.{Global}
-use Rattle.scatter_run.specs.Words.{IsComplete, word_bytes}
+use Rattle.limits.specs.Limits.{highest_order, most_workers}
+use Rattle.scatter_run.specs.Words.{AreCompleteWords, word_bytes}
 use Rattle.scatter_run.proofs.WordLists.{three-items}
 use Rattle.scatter_run.proofs.words.read_words.Goals as goal
 
-named : (words : List (String Global)) (a b c : String Global) (o w : ℕ) → words ≡ a ∷ b ∷ c ∷ [] → string_bytes a ≡ codes "complete" → string_bytes b ≡ decimal o → string_bytes c ≡ decimal w → o < 25 → 1 ≤ w → w < 17 → IsComplete (word_bytes words) o w
+named : (words : List (String Global)) (a b c : String Global) (o w : ℕ) → words ≡ a ∷ b ∷ c ∷ [] → string_bytes a ≡ codes "complete" → string_bytes b ≡ decimal o → string_bytes c ≡ decimal w → o < highest_order + 1 → 1 ≤ w → w < most_workers + 1 → AreCompleteWords (word_bytes words) o w
 named words a b c o w e ea eb ec ho hl hm = record {
   words = ap word_bytes e ∙ ap (λ x. x ∷ string_bytes b ∷ string_bytes c ∷ []) ea ∙ ap (λ x. codes "complete" ∷ x ∷ string_bytes c ∷ []) eb ∙ ap (λ x. codes "complete" ∷ decimal o ∷ x ∷ []) ec;
   order_most = omega (arith, ho);

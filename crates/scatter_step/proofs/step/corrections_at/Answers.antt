@@ -1,5 +1,3 @@
-use Rattle.std.proofs.Common.{sym, ap, ◌∙◌}
-use Rattle.std.specs.Prelude.{is_ok}
 use Rattle.std.proofs.lemmas.Result.{err_from_is_err_and}
 use Rattle.scattering.specs.Wall.{walls}
 use Rattle.plane_geom.specs.Shown.{point_of}
@@ -19,4 +17,4 @@ returns-in_err-h-clause-stop c =
 pub loop-p-preserved : goal.loop-p-preserved
 loop-p-preserved c =
     AreAt-more (walls c.args.e.now.diagram) c.args.order c.args.points.now c.loop-p.p-index c.p-item.result c.in_ok-h.h c.loop-p.out.items c.push.new.self.items c.loop-p-test.true c.p-item.is
-    (rw (sym c.map_err.ensures.variant ∙ ap is_ok c.in_ok-map_err.was) at c.push.ensures.items) c.loop-p.invariant c.in_ok-h.ensures.correction.correction c.in_ok-h.ensures.light
+    c.in_ok-push.ensures.items c.loop-p.invariant c.in_ok-h.ensures.correction.correction c.in_ok-h.ensures.light

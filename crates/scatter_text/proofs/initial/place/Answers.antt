@@ -3,14 +3,14 @@ use Rattle.std.proofs.Common.{rules, sym, subst, ℤ}
 use Rattle.std.specs.Prelude.{pos, ◌≤ℤ◌}
 use Rattle.plane_geom.specs.Shown.{point_of}
 use Rattle.plane_geom.proofs.Quotients.{quotient-along}
-use Rattle.plane_theory.proofs.WholeNumbers.{positive}
 use Rattle.scatter_text.proofs.Places.{product-read, far-along, some-near, at-some, not-far, is-place}
+use Rattle.sum_algebra.proofs.Integers.{positive-mul}
 use Rattle.scatter_text.proofs.initial.place.Goals as goal
 
 pub new-near-requires : goal.new-near-requires
 new-near-requires c =
     let w = product-read c.product-3.result c.args.x.now.den c.args.y.now.den (search rules) (search rules) (search rules) c.product-3.ensures in
-    subst (λ (z : ℤ). pos 1 ≤ℤ z) (sym w) (positive c.args.x.now.den c.args.y.now.den c.requires.x.positive c.requires.y.positive)
+    subst (λ (z : ℤ). pos 1 ≤ℤ z) (sym w) (positive-mul c.args.x.now.den c.args.y.now.den c.requires.x.positive c.requires.y.positive)
 
 pub unwrap-requires : goal.unwrap-requires
 unwrap-requires c =

@@ -1,10 +1,9 @@
 -- The fraction is the coordinate.
-use Rattle.std.proofs.Common.{rules, ◌∙◌, ap, ◌++◌, ◌∷◌, ℕ, List}
-use Rattle.std.specs.Prelude.{string_bytes}
+use Rattle.std.proofs.Common.{rules, ◌∙◌}
 use mir.Syntax.{w64, w128}
 use Rattle.std.proofs.lemmas.Int.{to_z-of_z}
 use Rattle.std.proofs.lemmas.Result.{on_ok_weaker}
-use Rattle.scatter_text.proofs.Fractions.{coordinate_of, fraction-coordinate, lowest-coordinate}
+use Rattle.scatter_text.proofs.Fractions.{coordinate_of, lowest-ratio}
 use Rattle.scatter_text.proofs.printing.push_coordinate.Goals as goal
 
 pub returns : goal.returns
@@ -13,5 +12,5 @@ returns c =
     let x = to_z-of_z w128 c.from.result (search rules) ∙ c.from.ensures ∙ to_z-of_z w64 c.args.x c.ranges.x in
     let w = to_z-of_z w128 c.from-2.result (search rules) ∙ c.from-2.ensures ∙ to_z-of_z w64 c.args.w c.ranges.w in
     on_ok_weaker c.push_fraction.result
-    (λ e. (coordinate_of q.num q.den, lowest-coordinate q.num q.den c.args.x c.args.w _ _ q.lowest x w c.new.ensures, e ∙ ap (λ (t : List ℕ). string_bytes c.args.text.now ++ 32 ∷ t) (fraction-coordinate q.num q.den q.lowest.positive)))
+    (λ e. (coordinate_of q.num q.den, lowest-ratio q.num q.den c.args.x c.args.w _ _ q.lowest x w c.new.ensures, e))
     c.push_fraction.ensures

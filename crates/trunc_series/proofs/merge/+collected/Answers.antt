@@ -1,9 +1,9 @@
 use Rattle.std.proofs.Common.{arith, length, take, drop, ◌/◌}
 use Rattle.std.proofs.lemmas.Result.{IfOk-weaker}
 use Rattle.scattering.specs.Series.{Sum}
+use Rattle.scattering.proofs.Lists.{Every-implies, Every-left, Every-right}
 use Rattle.trunc_series.specs.declared.arithmetic.Arithmetic.TheVariants.{Wrapping}
 use Rattle.trunc_series.specs.Shown.{sum_of, IsTerm}
-use Rattle.trunc_series.proofs.Coefficients.{Every-weaker, Every-left, Every-right}
 use Rattle.trunc_series.proofs.Merging.{whole}
 use Rattle.trunc_series.proofs.Terms.{sum_of-halves, rises-short}
 use Rattle.trunc_series.proofs.Exact.{own}
@@ -13,8 +13,8 @@ pub returns-then-terms-lt2 : goal.returns-then-terms-lt2
 returns-then-terms-lt2 t c =
     let f : Sum = sum_of c.args.terms.now in
     IfOk-weaker c.from_slice.result _ _ (λ r e. rw e (own c.args.order f
-    record { rises = rises-short c.args.terms.now c.if-terms-lt2.true; nonzero = Every-weaker (IsTerm c.args.order) _ f (λ u h. h.0) c.requires; low = Every-weaker (IsTerm c.args.order) _ f (λ u h. h.2) c.requires }
-    (Every-weaker (IsTerm c.args.order) _ f (λ u h. h.1) c.requires))) c.from_slice.ensures.items
+    record { rises = rises-short c.args.terms.now c.if-terms-lt2.true; nonzero = Every-implies (IsTerm c.args.order) _ f (λ u h. h.0) c.requires; low = Every-implies (IsTerm c.args.order) _ f (λ u h. h.2) c.requires }
+    (Every-implies (IsTerm c.args.order) _ f (λ u h. h.1) c.requires))) c.from_slice.ensures.items
 
 pub collected-requires : goal.collected-requires
 collected-requires t c =

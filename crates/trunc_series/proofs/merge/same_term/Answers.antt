@@ -1,8 +1,7 @@
-use Rattle.std.proofs.Common.{◌≡◌, sym, ◌∙◌, ap, subst, refl, Bool, true, false}
-use Rattle.std.specs.declared.cmp.Ordering.{Ordering}
+use Rattle.std.proofs.Common.{◌≡◌, sym, ◌∙◌, subst, refl}
 use Rattle.std.specs.declared.cmp.Ordering.TheVariants.{Equal}
 use Rattle.scattering.specs.Series.{Key}
-use Rattle.trunc_series.specs.Shown.{key_of, term_of}
+use Rattle.trunc_series.specs.Shown.{key_of}
 use Rattle.trunc_series.specs.Reduced.{key_order}
 use Rattle.trunc_series.proofs.Bisection.{order-equal}
 use Rattle.scattering.proofs.KeyOrder.{key_before-irrefl}

@@ -1,7 +1,6 @@
-use Rattle.std.proofs.Common.{◌≡◌, ℕ, ◌<◌, sym, ◌∙◌, ap, refl, arith, below_more, length, List, get_or, map}
+use Rattle.std.proofs.Common.{◌≡◌, ℕ, ◌<◌, sym, ◌∙◌, ap, refl, arith, below_more, length, List, get_or}
 use Rattle.std.specs.Prelude.{ℤ}
 use Rattle.std.proofs.lemmas.List.{get_or-map, length-map, ext_get_or}
-use Rattle.scattering.specs.Series.{Term}
 use Rattle.trunc_series.specs.declared.key.Key.{Key as CodeKey}
 use Rattle.trunc_series.specs.Shown.{term_of, sum_of}
 use Rattle.trunc_series.proofs.Terms.{at, no_term}

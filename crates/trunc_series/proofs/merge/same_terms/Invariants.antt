@@ -1,4 +1,4 @@
-use Rattle.std.proofs.Common.{◌≡◌, ℕ, ◌<◌, length}
+use Rattle.std.proofs.Common.{◌≡◌, ℕ, ◌<◌}
 use Rattle.trunc_series.specs.Shown.{term_of}
 use Rattle.trunc_series.proofs.Terms.{at}
 use Rattle.trunc_series.proofs.merge.same_terms.Given as goal

@@ -5,7 +5,7 @@ use Rattle.scattering.specs.Series.{key_eq, unit, rest, minus, inverse}
 use Rattle.scattering.specs.Collections.{Every}
 use Rattle.trunc_series.specs.declared.arithmetic.Arithmetic.TheVariants.{Wrapping}
 use Rattle.trunc_series.specs.Shown.{sum_of}
-use Rattle.trunc_series.specs.Reduced.{IsTame}
+use Rattle.trunc_series.specs.Reduced.{GrowsSlowly}
 use Rattle.trunc_series.proofs.Factors.{sum_of-where}
 use Rattle.trunc_series.proofs.PowerLaws.{rest-tame, powers-tame, reduced-keys}
 use Rattle.trunc_series.proofs.PowersNear.{tame-near, tame-powers}
@@ -28,11 +28,11 @@ powers_summed-requires-clause-tame c =
 pub powered-requires-clause-reduced : goal.powered-requires-clause-reduced
 powered-requires-clause-reduced c = rw c.as_slice-3.ensures.value (own-reduced Wrapping c.args.order _ _ c.in_ok-inverse.ensures)
 
-tame : (c : goal.After-as_slice-3) → Every (λ t. IsTame t.0) (sum_of c.in_ok-inverse.inverse.items)
+tame : (c : goal.After-as_slice-3) → Every (λ t. GrowsSlowly t.0) (sum_of c.in_ok-inverse.inverse.items)
 tame c =
     let e : sum_of c.as_slice-2.result.now ≡ minus (rest (sum_of c.args.f.now)) =
     rw (c.as_slice-2.ensures.value, c.in_ok-others-2.ensures, c.as_slice.ensures.value, c.in_ok-others.ensures, sum_of-where (λ t. not (key_eq t.0 unit)) c.args.f.now) refl in
-    reduced-keys Wrapping IsTame c.args.order (sum_of c.in_ok-inverse.inverse.items) (inverse c.args.order (sum_of c.args.f.now)) (rw e at c.in_ok-inverse.ensures)
+    reduced-keys Wrapping GrowsSlowly c.args.order (sum_of c.in_ok-inverse.inverse.items) (inverse c.args.order (sum_of c.args.f.now)) (rw e at c.in_ok-inverse.ensures)
     (powers-tame c.args.order (minus (rest (sum_of c.args.f.now))) c.args.order (minus-tame (sum_of c.args.f.now) (rest-tame (sum_of c.args.f.now) c.requires.near c.requires.others)))
 
 pub powered-requires-clause-near : goal.powered-requires-clause-near

@@ -1,7 +1,7 @@
 use Rattle.std.proofs.Common.{◌+◌, arith}
 use Rattle.scattering.specs.Series.{pow}
 use Rattle.trunc_series.specs.Shown.{sum_of}
-use Rattle.trunc_series.specs.Reduced.{IsReduced}
+use Rattle.trunc_series.specs.Reduced.{IsKeptAs}
 use Rattle.trunc_series.proofs.Merging.{whole}
 use Rattle.trunc_series.proofs.PowerLaws.{near-factor, pow-more, sum-more}
 use Rattle.trunc_series.proofs.PowersNear.{tame-powers}
@@ -20,7 +20,7 @@ merged-requires-clause-right c = rw c.as_slice-in-loop-i-2.ensures.value (whole 
 
 pub loop-i-preserved : goal.loop-i-preserved
 loop-i-preserved c =
-    let power : IsReduced c.args.rule c.args.order (sum_of c.in_ok-power-2.power.items) (pow c.args.order (sum_of c.args.g.now) (c.loop-i.i + 1)) =
+    let power : IsKeptAs c.args.rule c.args.order (sum_of c.in_ok-power-2.power.items) (pow c.args.order (sum_of c.args.g.now) (c.loop-i.i + 1)) =
     pow-more c.args.rule c.args.order (sum_of c.args.g.now) c.requires.reduced.keepable c.loop-i.i (sum_of c.args.g.now) (sum_of c.loop-i.power.items) (sum_of c.in_ok-power-2.power.items) c.requires.reduced c.loop-i.invariant.power
     (rw c.as_slice.ensures.value at c.in_ok-power-2.ensures) in
     record {

@@ -1,9 +1,9 @@
 use Rattle.std.proofs.Common.{arith, length, take, drop, ◌/◌, ℕ}
 use Rattle.std.proofs.lemmas.Result.{IfOk-weaker}
 use Rattle.scattering.specs.Series.{Sum}
+use Rattle.scattering.proofs.Lists.{Every-left, Every-right}
 use Rattle.trunc_series.specs.Shown.{term_of, sum_of}
 use Rattle.trunc_series.specs.Reduced.{pairs}
-use Rattle.trunc_series.proofs.Coefficients.{Every-left, Every-right}
 use Rattle.trunc_series.proofs.Merging.{whole}
 use Rattle.trunc_series.proofs.Terms.{at, sum_of-halves}
 use Rattle.trunc_series.proofs.Rows.{pairs-append}

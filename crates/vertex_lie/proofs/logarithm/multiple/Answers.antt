@@ -2,7 +2,7 @@ use Rattle.std.proofs.Common.{◌≡◌, ◌≢◌, arith, rules, FitsSigned}
 use Rattle.std.specs.Prelude.{pos}
 use Rattle.std.specs.Int.{w32}
 use Rattle.std.proofs.lemmas.Int.{ints, to_z-of_z}
-use Rattle.plane_geom.specs.Shown.{exp_of as direction_of}
+use Rattle.plane_geom.specs.Shown.{vector_of as direction_of}
 use Rattle.trunc_series.specs.Shown.{exp_of}
 use Rattle.vertex_lie.proofs.Logarithms.{second-size, first-positive, second-positive}
 use Rattle.vertex_lie.proofs.logarithm.multiple.Goals as goal

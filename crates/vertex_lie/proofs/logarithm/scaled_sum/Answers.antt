@@ -4,7 +4,7 @@ use Rattle.std.proofs.lemmas.Int.{to_z-of_z}
 use Rattle.scattering.specs.Series.{pow}
 use Rattle.trunc_series.specs.declared.arithmetic.Arithmetic.TheVariants.{Wrapping}
 use Rattle.trunc_series.specs.Shown.{sum_of}
-use Rattle.trunc_series.specs.Reduced.{IsReduced}
+use Rattle.trunc_series.specs.Reduced.{IsKeptAs}
 use Rattle.trunc_series.proofs.Merging.{whole}
 use Rattle.trunc_series.proofs.PowerLaws.{near-factor, pow-more}
 use Rattle.trunc_series.proofs.PowersNear.{tame-powers}
@@ -18,7 +18,7 @@ multiplied-requires-clause-right c =
 
 pub multiplied-requires-in-loop-i-clause-right : goal.multiplied-requires-in-loop-i-clause-right
 multiplied-requires-in-loop-i-clause-right c =
-    let power : IsReduced Wrapping c.args.order (sum_of c.in_ok-power-2.power.items) (pow c.args.order (sum_of c.args.g.now) (c.loop-i.i + 1)) =
+    let power : IsKeptAs Wrapping c.args.order (sum_of c.in_ok-power-2.power.items) (pow c.args.order (sum_of c.args.g.now) (c.loop-i.i + 1)) =
     pow-more Wrapping c.args.order (sum_of c.args.g.now) c.requires.reduced.keepable c.loop-i.i (sum_of c.args.g.now) (sum_of c.loop-i.power.items) (sum_of c.in_ok-power-2.power.items) c.requires.reduced c.loop-i.invariant.power
     (rw c.as_slice.ensures.value at c.in_ok-power-2.ensures) in
     rw c.as_slice-in-loop-i.ensures.value
@@ -32,7 +32,7 @@ merged-requires-clause-right c = rw c.as_slice-in-loop-i-3.ensures.value (whole 
 
 pub loop-i-preserved : goal.loop-i-preserved
 loop-i-preserved c =
-    let power : IsReduced Wrapping c.args.order (sum_of c.in_ok-power-2.power.items) (pow c.args.order (sum_of c.args.g.now) (c.loop-i.i + 1)) =
+    let power : IsKeptAs Wrapping c.args.order (sum_of c.in_ok-power-2.power.items) (pow c.args.order (sum_of c.args.g.now) (c.loop-i.i + 1)) =
     pow-more Wrapping c.args.order (sum_of c.args.g.now) c.requires.reduced.keepable c.loop-i.i (sum_of c.args.g.now) (sum_of c.loop-i.power.items) (sum_of c.in_ok-power-2.power.items) c.requires.reduced c.loop-i.invariant.power
     (rw c.as_slice.ensures.value at c.in_ok-power-2.ensures) in
     let f : FitsSigned w128 c.factor.result = search rules in

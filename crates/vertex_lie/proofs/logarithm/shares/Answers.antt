@@ -3,7 +3,7 @@ use Rattle.std.specs.Int.{w128}
 use Rattle.std.specs.Prelude.{nat_abs}
 use Rattle.std.proofs.lemmas.Int.{to_z-of_z, fits_signed_from_abs}
 use Rattle.scattering.specs.Series.{IsMultiple}
-use Rattle.plane_geom.specs.Shown.{exp_of as direction_of}
+use Rattle.plane_geom.specs.Shown.{vector_of as direction_of}
 use Rattle.trunc_series.proofs.Terms.{at, Every-at}
 use Rattle.vertex_lie.specs.Logarithm.{log_divisor}
 use Rattle.vertex_lie.proofs.Divided.{begun-more, begun-all, read-quotient}

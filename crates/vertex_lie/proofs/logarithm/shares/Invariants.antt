@@ -1,4 +1,4 @@
-use Rattle.plane_geom.specs.Shown.{exp_of as direction_of}
+use Rattle.plane_geom.specs.Shown.{vector_of as direction_of}
 use Rattle.vertex_lie.specs.Logarithm.{log_divisor}
 use Rattle.vertex_lie.proofs.Divided.{IsBegun}
 use Rattle.vertex_lie.proofs.logarithm.shares.Given as goal

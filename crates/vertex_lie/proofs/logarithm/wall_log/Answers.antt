@@ -1,6 +1,6 @@
 use Rattle.std.specs.Prelude.{not, []}
 use Rattle.scattering.specs.Series.{key_eq, unit, rest}
-use Rattle.plane_geom.specs.Shown.{exp_of as direction_of}
+use Rattle.plane_geom.specs.Shown.{vector_of as direction_of}
 use Rattle.trunc_series.specs.Shown.{sum_of}
 use Rattle.trunc_series.proofs.Exact.{own}
 use Rattle.trunc_series.proofs.Factors.{sum_of-where}

@@ -1,9 +1,9 @@
 use Rattle.std.proofs.Common.{◌/◌, ℕ, arith, length, take, drop}
 use Rattle.std.proofs.lemmas.Result.{IfOk-weaker}
 use Rattle.scattering.specs.Series.{Sum}
-use Rattle.plane_geom.specs.Shown.{exp_of}
+use Rattle.scattering.proofs.Lists.{Every-left, Every-right}
+use Rattle.plane_geom.specs.Shown.{vector_of}
 use Rattle.trunc_series.specs.Shown.{sum_of}
-use Rattle.trunc_series.proofs.Coefficients.{Every-left, Every-right}
 use Rattle.trunc_series.proofs.Merging.{whole}
 use Rattle.trunc_series.proofs.Terms.{sum_of-halves}
 use Rattle.wall_auto.specs.Sign.{sign}
@@ -58,8 +58,8 @@ returns-in_ok-right-in_default-clause-images t c =
     let back : Sum = sum_of (drop m c.args.part.now) in
     let u : Sum = sum_of c.args.wall.now.others.items in
     IfOk-weaker c.merged.result _ _
-    (λ r k. rw (h, crossing-append c.args.wall.now.rule c.args.wall.now.order u (exp_of c.args.wall.now.dir) (sign c.args.wall.now.side) front back)
-    (k c.args.wall.now.order (crossing c.args.wall.now.rule c.args.wall.now.order u (exp_of c.args.wall.now.dir) (sign c.args.wall.now.side) front) (crossing c.args.wall.now.rule c.args.wall.now.order u (exp_of c.args.wall.now.dir) (sign c.args.wall.now.side) back)
+    (λ r k. rw (h, crossing-append c.args.wall.now.rule c.args.wall.now.order u (vector_of c.args.wall.now.dir) (sign c.args.wall.now.side) front back)
+    (k c.args.wall.now.order (crossing c.args.wall.now.rule c.args.wall.now.order u (vector_of c.args.wall.now.dir) (sign c.args.wall.now.side) front) (crossing c.args.wall.now.rule c.args.wall.now.order u (vector_of c.args.wall.now.dir) (sign c.args.wall.now.side) back)
     (rw (c.as_slice.ensures.value, ← c.split_at.ensures.front) c.in_ok-left-in_default.ensures.images)
     (rw (c.as_slice-in_default.ensures.value, ← c.split_at.ensures.back) c.in_ok-right-in_default.ensures.images)))
     c.merged.ensures

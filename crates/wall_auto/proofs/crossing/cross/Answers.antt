@@ -2,7 +2,7 @@ use Rattle.std.proofs.Common.{ap, ◌≡◌, ◌∙◌, refl}
 use Rattle.std.specs.Prelude.{nat_abs}
 use Rattle.scattering.specs.Series.{rest}
 use Rattle.scattering.specs.LocalProduct.{cross}
-use Rattle.plane_geom.specs.Shown.{exp_of}
+use Rattle.plane_geom.specs.Shown.{vector_of}
 use Rattle.trunc_series.specs.declared.arithmetic.Arithmetic.TheVariants.{Wrapping}
 use Rattle.trunc_series.specs.Shown.{sum_of}
 use Rattle.trunc_series.proofs.Exact.{Made, own}
@@ -20,10 +20,10 @@ one-sign : (s : Side) → nat_abs (sign s) ≡ 1
 one-sign Plus = refl
 one-sign Minus = refl
 
-made : (c : goal.After-order) → Made c.args.g.now.order (sum_of c.in_ok-terms.terms.items) (cross c.args.g.now.order (exp_of c.args.dir.now) c.args.function.now.terms (sign c.args.side) c.args.g.now.terms)
+made : (c : goal.After-order) → Made c.args.g.now.order (sum_of c.in_ok-terms.terms.items) (cross c.args.g.now.order (vector_of c.args.dir.now) c.args.function.now.terms (sign c.args.side) c.args.g.now.terms)
 made c =
-    made-crossing c.args.g.now.order (exp_of c.args.dir.now) c.args.function.now.terms c.requires.wall (sign c.args.side) c.args.g.now.terms (sum_of c.in_ok-terms.terms.items) c.terms.ensures.valid.order (one-sign c.args.side) c.requires.mass
-    (by-parts c.in_ok-wall.wall.rule Wrapping c.in_ok-wall.wall.order c.args.g.now.order (sum_of c.in_ok-wall.wall.others.items) (rest c.args.function.now.terms) (exp_of c.in_ok-wall.wall.dir) (exp_of c.args.dir.now) (sign c.in_ok-wall.wall.side) (sign c.args.side) (sum_of c.terms.result.now) c.args.g.now.terms (sum_of c.in_ok-terms.terms.items)
+    made-crossing c.args.g.now.order (vector_of c.args.dir.now) c.args.function.now.terms c.requires.wall (sign c.args.side) c.args.g.now.terms (sum_of c.in_ok-terms.terms.items) c.terms.ensures.valid.order (one-sign c.args.side) c.requires.mass
+    (by-parts c.in_ok-wall.wall.rule Wrapping c.in_ok-wall.wall.order c.args.g.now.order (sum_of c.in_ok-wall.wall.others.items) (rest c.args.function.now.terms) (vector_of c.in_ok-wall.wall.dir) (vector_of c.args.dir.now) (sign c.in_ok-wall.wall.side) (sign c.args.side) (sum_of c.terms.result.now) c.args.g.now.terms (sum_of c.in_ok-terms.terms.items)
     c.in_ok-wall.ensures.rule (c.in_ok-wall.ensures.order ∙ c.requires.order) c.in_ok-wall.ensures.others c.in_ok-wall.ensures.dir (ap sign c.in_ok-wall.ensures.side) c.terms.ensures.terms c.in_ok-terms.ensures)
 
 pub from_sorted-requires : goal.from_sorted-requires
@@ -31,9 +31,9 @@ from_sorted-requires c = rw c.order.ensures (made c).0
 
 pub returns : goal.returns
 returns c =
-    let m : Made c.args.g.now.order (sum_of c.in_ok-terms.terms.items) (cross c.args.g.now.order (exp_of c.args.dir.now) c.args.function.now.terms (sign c.args.side) c.args.g.now.terms) =
-    made-crossing c.args.g.now.order (exp_of c.args.dir.now) c.args.function.now.terms c.requires.wall (sign c.args.side) c.args.g.now.terms (sum_of c.in_ok-terms.terms.items) c.terms.ensures.valid.order (one-sign c.args.side) c.requires.mass
-    (by-parts c.in_ok-wall.wall.rule Wrapping c.in_ok-wall.wall.order c.args.g.now.order (sum_of c.in_ok-wall.wall.others.items) (rest c.args.function.now.terms) (exp_of c.in_ok-wall.wall.dir) (exp_of c.args.dir.now) (sign c.in_ok-wall.wall.side) (sign c.args.side) (sum_of c.terms.result.now) c.args.g.now.terms (sum_of c.in_ok-terms.terms.items)
+    let m : Made c.args.g.now.order (sum_of c.in_ok-terms.terms.items) (cross c.args.g.now.order (vector_of c.args.dir.now) c.args.function.now.terms (sign c.args.side) c.args.g.now.terms) =
+    made-crossing c.args.g.now.order (vector_of c.args.dir.now) c.args.function.now.terms c.requires.wall (sign c.args.side) c.args.g.now.terms (sum_of c.in_ok-terms.terms.items) c.terms.ensures.valid.order (one-sign c.args.side) c.requires.mass
+    (by-parts c.in_ok-wall.wall.rule Wrapping c.in_ok-wall.wall.order c.args.g.now.order (sum_of c.in_ok-wall.wall.others.items) (rest c.args.function.now.terms) (vector_of c.in_ok-wall.wall.dir) (vector_of c.args.dir.now) (sign c.in_ok-wall.wall.side) (sign c.args.side) (sum_of c.terms.result.now) c.args.g.now.terms (sum_of c.in_ok-terms.terms.items)
     c.in_ok-wall.ensures.rule (c.in_ok-wall.ensures.order ∙ c.requires.order) c.in_ok-wall.ensures.others c.in_ok-wall.ensures.dir (ap sign c.in_ok-wall.ensures.side) c.terms.ensures.terms c.in_ok-terms.ensures) in
     record {
       order = c.from_sorted.ensures.order ∙ c.order.ensures;

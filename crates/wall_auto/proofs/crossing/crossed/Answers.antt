@@ -1,7 +1,7 @@
 use Rattle.std.proofs.Common.{◌≡◌, ◌+◌, arith}
 use Rattle.std.specs.Prelude.{◌==◌, nat_abs, ◌≤◌, ◌^◌}
 use Rattle.scattering.specs.Series.{Sum, degree}
-use Rattle.plane_geom.specs.Shown.{exp_of}
+use Rattle.plane_geom.specs.Shown.{vector_of}
 use Rattle.trunc_series.specs.Shown.{sum_of}
 use Rattle.trunc_series.specs.Arithmetic.{IsKeepable}
 use Rattle.trunc_series.proofs.Factors.{reduced-nil, sum_of-where}
@@ -47,8 +47,8 @@ loop-d-preserved c =
     record {
       known = still-known c.args.wall.now c.loop-d.d c.images.new.known c.in_ok-some.ensures.known;
       out =
-          crossing-level c.args.wall.now.rule c.args.wall.now.order (sum_of c.args.wall.now.others.items) (exp_of c.args.wall.now.dir) (sign c.args.wall.now.side) (sum_of c.args.terms.now) (sum_of c.in_ok-out.out.items) c.loop-d.d c.requires.wall.others.reduced.keepable c.requires.reduced.keepable
-          (c.in_ok-out.ensures c.args.wall.now.order (crossing c.args.wall.now.rule c.args.wall.now.order u (exp_of c.args.wall.now.dir) (sign c.args.wall.now.side) (below c.loop-d.d a)) (crossing c.args.wall.now.rule c.args.wall.now.order u (exp_of c.args.wall.now.dir) (sign c.args.wall.now.side) (level c.loop-d.d a))
+          crossing-level c.args.wall.now.rule c.args.wall.now.order (sum_of c.args.wall.now.others.items) (vector_of c.args.wall.now.dir) (sign c.args.wall.now.side) (sum_of c.args.terms.now) (sum_of c.in_ok-out.out.items) c.loop-d.d c.requires.wall.others.reduced.keepable c.requires.reduced.keepable
+          (c.in_ok-out.ensures c.args.wall.now.order (crossing c.args.wall.now.rule c.args.wall.now.order u (vector_of c.args.wall.now.dir) (sign c.args.wall.now.side) (below c.loop-d.d a)) (crossing c.args.wall.now.rule c.args.wall.now.order u (vector_of c.args.wall.now.dir) (sign c.args.wall.now.side) (level c.loop-d.d a))
           (rw c.as_slice-in-loop-d.ensures.value c.loop-d.invariant.out)
           (rw c.as_slice-in-loop-d-2.ensures.value some));
     }

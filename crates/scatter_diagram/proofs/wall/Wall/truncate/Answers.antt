@@ -1,4 +1,4 @@
-use Rattle.plane_geom.specs.Shown.{point_of, exp_of}
+use Rattle.plane_geom.specs.Shown.{point_of, vector_of}
 use Rattle.scatter_diagram.specs.Kinds.{kind_of}
 use Rattle.scatter_diagram.proofs.Walls.{function-cut}
 use Rattle.scatter_diagram.proofs.wall.Wall.truncate.Goals as goal
@@ -8,4 +8,4 @@ invariant_of-result c = record { proper = (function-cut c.args.self.now c.args.o
 
 pub returns-clause-wall : goal.returns-clause-wall
 returns-clause-wall c = let e = (function-cut c.args.self.now c.args.order c.in_ok-truncate.field-0 c.requires c.in_ok-truncate.ensures).1 in
-    λ i. record { kind = kind_of c.args.self.now.kind; at = point_of c.args.self.now.at; dir = exp_of c.args.self.now.dir; function = e i }
+    λ i. record { kind = kind_of c.args.self.now.kind; at = point_of c.args.self.now.at; dir = vector_of c.args.self.now.dir; function = e i }

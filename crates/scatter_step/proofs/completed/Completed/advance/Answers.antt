@@ -3,12 +3,11 @@ use Rattle.std.proofs.lemmas.Result.{err_from_is_err_and}
 use Rattle.scattering.specs.Wall.{Diagram, walls}
 use Rattle.scattering.specs.Completion.{IsCompletion}
 use Rattle.scattering.specs.Correction.{IsMerged}
-use Rattle.scatter_diagram.specs.Listed.{SeenInitial, SeenDiagram}
+use Rattle.scatter_diagram.specs.Listed.{SeenInitial}
 use Rattle.ray_merge.specs.Additions.{corrections_of}
-use Rattle.ray_merge.specs.Answer.{AreLightStarts}
-use Rattle.scatter_step.proofs.NextOrder.{mergeable, light, light-starts, completes-next}
+use Rattle.ray_merge.specs.Answer.{StayWithin}
+use Rattle.scatter_step.proofs.NextOrder.{mergeable, light, stay-within, completes-next}
 use Rattle.scatter_step.proofs.Read.{read-from, read-into}
-use Rattle.scatter_step.specs.Orders.{AreTameWalls}
 use Rattle.scatter_step.proofs.Tame.{tame-corrections}
 use Rattle.scatter_step.proofs.Stopped.{IfStop-weaker}
 use Rattle.scatter_step.proofs.completed.Completed.advance.Goals as goal
@@ -20,15 +19,15 @@ pub merged-requires-clause-tame : goal.merged-requires-clause-tame
 merged-requires-clause-tame c =
     rw c.order-order.ensures.value
     (tame-corrections (walls c.args.self.now.diagram) (c.args.self.now.order + 1) (corrections_of c.args.corrections.now)
-    (subst (λ (e : SeenDiagram). AreTameWalls (walls e.diagram)) c.diagram-e.ensures.value c.functions_are_tame.ensures) c.requires.corrections)
+    c.order-order.ensures.tame c.requires.corrections)
 
 pub merged-requires-clause-light : goal.merged-requires-clause-light
 merged-requires-clause-light c = light c.args.self.now c.order-order.ensures.completed c.requires.order _ c.requires.corrections c.requires.light
 
-pub merged-requires-clause-starts : goal.merged-requires-clause-starts
-merged-requires-clause-starts c =
-    read-into (λ n d. AreLightStarts (n + 1) (corrections_of c.args.corrections.now) d.rays) c.order-order.result c.diagram-e.result.now c.args.self.now.order c.args.self.now.diagram c.order-order.ensures.value c.diagram-e.ensures.value
-    (light-starts c.args.self.now c.order-order.ensures.completed c.requires.order _ c.requires.corrections c.requires.light)
+pub merged-requires-clause-within : goal.merged-requires-clause-within
+merged-requires-clause-within c =
+    read-into (λ n d. StayWithin (n + 1) (corrections_of c.args.corrections.now) d.rays) c.order-order.result c.diagram-e.result.now c.args.self.now.order c.args.self.now.diagram c.order-order.ensures.value c.diagram-e.ensures.value
+    (stay-within c.args.self.now c.order-order.ensures.completed c.requires.order _ c.requires.corrections c.requires.light)
 
 pub returns-in_err-next-clause-stop : goal.returns-in_err-next-clause-stop
 returns-in_err-next-clause-stop c =

@@ -1,4 +1,4 @@
-use Rattle.std.proofs.Common.{sym, ap, subst}
+use Rattle.std.proofs.Common.{◌∙◌, sym, ap, subst}
 use Rattle.scatter_diagram.specs.Shown.{wall_of, walls_of}
 use Rattle.std.proofs.lemmas.List.{length-map}
 use Rattle.scatter_step.proofs.Lines.{AreLines}
@@ -14,7 +14,7 @@ from_walls-requires-clause-lines c = record {
 pub invariant_of-result : goal.invariant_of-result
 invariant_of-result c =
     starts-completed c.args.initial.now _ (walls_of c.lines.result.now) (walls_of c.in_ok-lines.lines.items) (walls_of c.new.result.items) _
-    c.lines.ensures.walls c.in_ok-lines.ensures.walls (ap walls_of c.new.ensures.items) c.in_ok-diagram.ensures c.in_ok-copy.ensures
+    c.lines.ensures.walls c.in_ok-lines.ensures.walls (ap walls_of c.new.ensures.items) c.in_ok-diagram.ensures (c.in_ok-new.ensures.ok ∙ c.in_ok-copy.ensures)
     c.lines.ensures.proper c.lines.ensures.lines.lines (rw (length-map c.lines.result.now wall_of) c.lines.ensures.few)
 
 pub returns-clause-completed : goal.returns-clause-completed

@@ -8,3 +8,6 @@ returns-in-Line c =
     let dx : FitsSigned w64 c.in-Line.dx = search rules in
     let dy : FitsSigned w64 c.in-Line.dy = search rules in
     rw c.in-Line.is (simp to_z-of_z at c.is_primitive.ensures)
+
+pub returns-in-Term : goal.returns-in-Term
+returns-in-Term c = rw c.in-Term.is c.allows_term.ensures

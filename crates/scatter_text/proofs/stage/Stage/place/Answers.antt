@@ -5,4 +5,4 @@ use Rattle.scatter_text.proofs.StageRows.{place_after-line}
 use Rattle.scatter_text.proofs.stage.Stage.place.Goals as goal
 
 pub returns-in-Body : goal.returns-in-Body
-returns-in-Body c = ap (λ s. place_after (rows_of s)) c.in-Body.is ∙ place_after-line _ c.in-Body.last
+returns-in-Body c = ap (λ s. place_after (rows_of s)) c.in-Body.is ∙ place_after-line _ c.in-Body.last.row

@@ -9,7 +9,7 @@ use Rattle.scatter_text.proofs.stage.Stage.vars.Goals as goal
 pub returns-in-Body : goal.returns-in-Body
 returns-in-Body c =
     let fits : FitsSigned w64 c.in-Body.vars = search rules in
-    rw to_z-of_z (ap (λ s. vars_of (rows_of s)) c.in-Body.is ∙ vars_of-line _ c.in-Body.last ∙ vars_of-lines (head_rows c.in-Body.vars) c.in-Body.lines.items)
+    rw to_z-of_z (ap (λ s. vars_of (rows_of s)) c.in-Body.is ∙ vars_of-line _ c.in-Body.last.row ∙ vars_of-lines (head_rows c.in-Body.vars) c.in-Body.lines.items)
 
 pub returns-in-Whole : goal.returns-in-Whole
 returns-in-Whole c =

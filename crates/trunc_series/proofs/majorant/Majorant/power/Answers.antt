@@ -1,6 +1,6 @@
 use Rattle.std.proofs.Common.{refl, inl, inr}
 use Rattle.scattering.specs.Series.{pow}
-use Rattle.trunc_series.specs.Shown.{sum_of, IsNear}
+use Rattle.trunc_series.specs.Shown.{sum_of, HasNearTerms}
 use Rattle.trunc_series.proofs.Majorants.{MadeMajorant, own-majorant, made-majorant}
 use Rattle.trunc_series.proofs.Products.{near-keys}
 use Rattle.trunc_series.proofs.PowerLaws.{rest-tame}
@@ -15,7 +15,7 @@ powered-requires-clause-near c = rw c.as_slice.ensures.value (near-keys (sum_of 
 
 pub powered-requires-clause-powers : goal.powered-requires-clause-powers
 powered-requires-clause-powers c =
-    let near : IsNear (sum_of c.self.inside.terms.items) = rw (← c.self.view_is) at c.requires.near in
+    let near : HasNearTerms (sum_of c.self.inside.terms.items) = rw (← c.self.view_is) at c.requires.near in
     rw c.as_slice.ensures.value
     (elim (rw (← c.self.view_is) at c.requires.near_power) [
       | inl others ↦ tame-powers c.self.inside.order (sum_of c.self.inside.terms.items) c.args.n c.self.invariant.order (rest-tame (sum_of c.self.inside.terms.items) near others)

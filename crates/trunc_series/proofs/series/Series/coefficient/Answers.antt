@@ -4,8 +4,8 @@ use Rattle.std.proofs.lemmas.Int.{to_z-of_z, fits_signed_from_abs}
 use mir.Syntax.{w128}
 use Rattle.scattering.specs.Series.{coef}
 use Rattle.trunc_series.specs.Shown.{key_of, sum_of}
-use Rattle.trunc_series.proofs.Terms.{at, Every-at}
-use Rattle.trunc_series.proofs.Bisection.{none-before, none-after, found, nowhere, order-less, order-greater, order-equal}
+use Rattle.trunc_series.proofs.Terms.{at, Every-at, less-before}
+use Rattle.trunc_series.proofs.Bisection.{none-before, none-after, found, nowhere, order-greater, order-equal}
 use Rattle.trunc_series.proofs.series.Series.coefficient.Goals as goal
 
 pub search-preserved-in-Less : goal.search-preserved-in-Less
@@ -15,7 +15,7 @@ search-preserved-in-Less c =
     record {
       in_order = omega arith;
       in_range = omega arith;
-      before = none-before c.as_slice-terms.result.now m (key_of c.args.key.now) (rw c.as_slice-terms.ensures.value c.self.invariant.series.rises) l (order-less (key_of (at c.as_slice-terms.result.now m).0) (key_of c.args.key.now) (sym c.in-Less.ensures));
+      before = none-before c.as_slice-terms.result.now m (key_of c.args.key.now) (rw c.as_slice-terms.ensures.value c.self.invariant.series.rises) l (less-before (key_of (at c.as_slice-terms.result.now m).0) (key_of c.args.key.now) (sym c.in-Less.ensures));
       after = c.search.invariant.after;
     }
 

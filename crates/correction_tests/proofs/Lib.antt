@@ -1,0 +1,4 @@
+pub mod LeadingImages
+pub mod WorkedLines
+pub mod CrossedWalls
+pub mod Consistency

@@ -1,0 +1,3 @@
+pub mod WorkedImages
+pub mod CrossedSums
+pub mod LocalWalls

@@ -1,0 +1,236 @@
+// Completions, order by order and at once.
+
+ghost use Rattle.std.specs.Prelude.{◌<◌};
+ghost use Rattle.limits.specs.Limits.{highest_order};
+
+use plane_geom::Point;
+use sample_walls::monomials::{
+    ONE, T1T2_XXYY, T1T2T3_XXY, T2_XXY, T2_XYY, T2T3_XY, T3_X, X, XXY, XXYY, XY, XYY, Y,
+};
+use sample_walls::{axes, line, plain_axes, square_axes};
+use scatter_diagram::{Diagram, Initial, Stop, StopCause, Wall};
+use scatter_step::{Completed, Outcome, complete_plain};
+use std::alloc::Global;
+use std::test::Fail;
+use trunc_series::Key;
+
+// Whether the ray starts at (x, y), goes along (a, b) and has the function.
+fn is_ray(ray: &Wall, start: (i64, i64), dir: (i32, i32), terms: &[(Key, i128)]) -> bool {
+    (ray.at.x, ray.at.y, ray.at.w) == (start.0, start.1, 1)
+        && (ray.dir.a, ray.dir.b) == dir
+        && ray.function.terms() == terms
+}
+
+// Whether the only ray of the diagram is from (0, 0) along (1, 1) and has the function.
+fn has_diagonal(e: &Diagram, terms: &[(Key, i128)]) -> bool {
+    match e.rays() {
+        [ray] => is_ray(ray, (0, 0), (1, 1), terms),
+        _ => false,
+    }
+}
+
+// ---- two lines
+
+fn two_lines_have_one_ray(alloc: Global, order: bool) -> Result<bool, Fail> {
+    let initial = Initial::new(2, plain_axes(alloc)?);
+    let order = if order { 24 } else { 2 };
+    let outcome = complete_plain(alloc, &initial, order)?;
+    Ok(
+        outcome.stop.is_none()
+            && outcome.last.order() == order
+            && has_diagonal(outcome.last.diagram(), &[(ONE, 1), (XY, 1)]),
+    )
+}
+
+// The lines (1, 0) and (1, 2), of determinant 2.
+fn slanted_lines_have_one_ray(alloc: Global) -> Result<bool, Fail> {
+    let mut lines = Vec::new(alloc);
+    lines.push(line(alloc, 0, 0, 1, 0, &[(ONE, 1), (X, 1)])?)?;
+    lines.push(line(alloc, 0, 0, 1, 2, &[(ONE, 1), (T2_XYY, 1)])?)?;
+    let outcome = complete_plain(alloc, &Initial::new(2, lines), 2)?;
+    Ok(has_diagonal(outcome.last.diagram(), &[(ONE, 1), (T1T2_XXYY, 4)]))
+}
+
+fn negative_lines_have_one_ray(alloc: Global) -> Result<bool, Fail> {
+    let lines = axes(alloc, 24, &[(ONE, 1), (X, -1)], &[(ONE, 1), (Y, 1)])?;
+    let outcome = complete_plain(alloc, &Initial::new(2, lines), 4)?;
+    Ok(has_diagonal(outcome.last.diagram(), &[(ONE, 1), (XY, -1)]))
+}
+
+fn parallel_lines_have_no_ray(alloc: Global) -> Result<bool, Fail> {
+    let mut lines = Vec::new(alloc);
+    lines.push(line(alloc, 0, 0, 1, 0, &[(ONE, 1), (X, 1)])?)?;
+    lines.push(line(alloc, 0, 3, 1, 0, &[(ONE, 1), (T3_X, 1)])?)?;
+    let outcome = complete_plain(alloc, &Initial::new(3, lines), 6)?;
+    Ok(outcome.stop.is_none() && outcome.last.diagram().ray_count() == 0)
+}
+
+#[test]
+fn two_lines(rt: HostRuntime) -> Result<(), Fail> {
+    assert!(rt; two_lines_have_one_ray(rt.alloc(), false)?);
+    assert!(rt; two_lines_have_one_ray(rt.alloc(), true)?);
+    assert!(rt; slanted_lines_have_one_ray(rt.alloc())?);
+    assert!(rt; negative_lines_have_one_ray(rt.alloc())?);
+    assert!(rt; parallel_lines_have_no_ray(rt.alloc())?);
+    Ok(())
+}
+
+// ---- more lines, and more terms
+
+fn has_three_rays(outcome: &Outcome) -> bool {
+    match outcome.last.diagram().rays() {
+        [r, s, t] => {
+            is_ray(r, (-1, 0), (2, 1), &[(ONE, 1), (T1T2T3_XXY, 1)])
+                && is_ray(s, (0, 0), (1, 1), &[(ONE, 1), (XY, 1)])
+                && is_ray(t, (0, 1), (1, 1), &[(ONE, 1), (T2T3_XY, 1)])
+        }
+        _ => false,
+    }
+}
+
+fn three_lines_have_a_ray_where_rays_cross(alloc: Global) -> Result<bool, Fail> {
+    let mut lines = plain_axes(alloc)?;
+    lines.push(line(alloc, 0, 1, 1, 0, &[(ONE, 1), (T3_X, 1)])?)?;
+    let outcome = complete_plain(alloc, &Initial::new(3, lines), 3)?;
+    Ok(outcome.stop.is_none() && has_three_rays(&outcome))
+}
+
+fn has_rays_of_squares(outcome: &Outcome) -> bool {
+    match outcome.last.diagram().rays() {
+        [r, s, t] => {
+            is_ray(r, (0, 0), (1, 1), &[(ONE, 1), (XY, 4), (XXYY, 10)])
+                && is_ray(s, (0, 0), (1, 2), &[(ONE, 1), (XYY, 2)])
+                && is_ray(t, (0, 0), (2, 1), &[(ONE, 1), (XXY, 2)])
+        }
+        _ => false,
+    }
+}
+
+fn squares_have_three_rays(alloc: Global) -> Result<bool, Fail> {
+    let initial = Initial::new(2, square_axes(alloc, 24)?);
+    let outcome = complete_plain(alloc, &initial, 4)?;
+    let copy = outcome.copy()?;
+    Ok(outcome.stop.is_none() && has_rays_of_squares(&outcome) && has_rays_of_squares(&copy))
+}
+
+// Whether the diagram, cut to order 2, has the one ray of order 2.
+fn has_diagonal_when_cut(e: &Diagram) -> Result<bool, Fail> {
+    if e.order() < 2 {
+        return Ok(false);
+    }
+    let cut = e.truncate(2)?;
+    Ok(has_diagonal(&cut, &[(ONE, 1), (XY, 4)]))
+}
+
+// Whether the completion at order 4 has that ray.
+fn a_cut_completion_is_that_of_the_order(alloc: Global) -> Result<bool, Fail> {
+    let initial = Initial::new(2, square_axes(alloc, 24)?);
+    let outcome = complete_plain(alloc, &initial, 4)?;
+    has_diagonal_when_cut(outcome.last.diagram())
+}
+
+#[test]
+fn more_rays(rt: HostRuntime) -> Result<(), Fail> {
+    assert!(rt; three_lines_have_a_ray_where_rays_cross(rt.alloc())?);
+    assert!(rt; squares_have_three_rays(rt.alloc())?);
+    assert!(rt; a_cut_completion_is_that_of_the_order(rt.alloc())?);
+    Ok(())
+}
+
+// ---- one order at a time
+
+// Whether order 0 has the lines alone, and a copy of it too.
+fn order_zero_has_the_lines(alloc: Global) -> Result<bool, Fail> {
+    let start = Completed::start(alloc, &Initial::new(2, plain_axes(alloc)?))?;
+    let copy = start.copy()?;
+    Ok(
+        start.order() == 0
+            && start.initial().vars() == 2
+            && copy.diagram().line_count() == 2
+            && copy.diagram().ray_count() == 0,
+    )
+}
+
+fn is_origin_alone(points: &[Point]) -> bool {
+    match points {
+        [p] => (p.x, p.y, p.w) == (0, 0, 1),
+        _ => false,
+    }
+}
+
+// Whether the origin is the one point of the next order.
+fn has_origin_as_task(last: &Completed) -> bool
+    requires { last.now.order < highest_order }
+{
+    match last.tasks() {
+        Ok(points) => is_origin_alone(points.as_slice()),
+        Err(_) => false,
+    }
+}
+
+// Whether the origin is the one point of order 2.
+fn order_two_has_a_task(alloc: Global) -> Result<bool, Fail> {
+    let start = Completed::start(alloc, &Initial::new(2, plain_axes(alloc)?))?;
+    match start.next_order() {
+        Ok(first) => Ok(has_origin_as_task(&first)),
+        Err(_) => Ok(false),
+    }
+}
+
+// The next order of a completion that has no points there.
+fn advanced(last: &Completed) -> Result<Completed, Stop>
+    requires { last.now.order < highest_order }
+{
+    let points = last.tasks()?;
+    if points.len() > 0 {
+        return Err(Stop::Memory);
+    }
+    last.advance(&[])
+}
+
+// Whether order 1 has no points, and comes without corrections.
+fn order_one_advances(alloc: Global) -> Result<bool, Fail> {
+    let start = Completed::start(alloc, &Initial::new(2, plain_axes(alloc)?))?;
+    match advanced(&start) {
+        Ok(next) => Ok(next.order() == 1 && next.diagram().ray_count() == 0),
+        Err(_) => Ok(false),
+    }
+}
+
+#[test]
+fn orders(rt: HostRuntime) -> Result<(), Fail> {
+    assert!(rt; order_zero_has_the_lines(rt.alloc())?);
+    assert!(rt; order_two_has_a_task(rt.alloc())?);
+    assert!(rt; order_one_advances(rt.alloc())?);
+    Ok(())
+}
+
+// ---- stops
+
+fn a_heavy_point_stops_order_four(alloc: Global) -> Result<bool, Fail> {
+    let x = [(ONE, 1), (X, 2147483647)];
+    let y = [(ONE, 1), (Y, 2147483647)];
+    let initial = Initial::new(2, axes(alloc, 24, &x, &y)?);
+    let outcome = complete_plain(alloc, &initial, 24)?;
+    let ray = [(ONE, 1), (XY, 4611686014132420609)];
+    Ok(
+        outcome.stop == Some((4, StopCause::WeightTooLarge))
+            && outcome.last.order() == 3
+            && has_diagonal(outcome.last.diagram(), &ray),
+    )
+}
+
+fn a_far_point_stops_order_two(alloc: Global) -> Result<bool, Fail> {
+    let mut lines = Vec::new(alloc);
+    lines.push(line(alloc, 0, 1 << 40, 1, 0, &[(ONE, 1), (X, 1)])?)?;
+    lines.push(line(alloc, 0, 0, 2, 1, &[(ONE, 1), (T2_XXY, 1)])?)?;
+    let outcome = complete_plain(alloc, &Initial::new(2, lines), 24)?;
+    Ok(outcome.stop == Some((2, StopCause::PointTooLarge)) && outcome.last.order() == 1)
+}
+
+#[test]
+fn stops(rt: HostRuntime) -> Result<(), Fail> {
+    assert!(rt; a_heavy_point_stops_order_four(rt.alloc())?);
+    assert!(rt; a_far_point_stops_order_two(rt.alloc())?);
+    Ok(())
+}

@@ -1,6 +1,0 @@
-use Rattle.ray_merge.specs.Additions.{corrections_of}
-use Rattle.ray_merge.proofs.Worked.{IsRow}
-use Rattle.ray_merge.proofs.tests.corrections.Given as goal
-
-abbrev pub invariant-loop-x : goal.invariant-loop-x
-invariant-loop-x l = IsRow l.order l.x (corrections_of l.out.items)

@@ -1,7 +1,0 @@
-use Rattle.std.proofs.Common.{refl, arith}
-use Rattle.std.proofs.lemmas.Int.{ints}
-use Rattle.std.proofs.lemmas.Nat.Gcd.{IsGcd-from_zero, IsGcd-from_mod}
-use Rattle.ray_merge.proofs.tests.minus_three_halves.Goals as goal
-
-pub invariant_of-result : goal.invariant_of-result
-invariant_of-result c = record { lowest = record { positive = omega (arith, ints); coprime = IsGcd-from_mod 3 2 1 (IsGcd-from_mod 2 1 1 (IsGcd-from_zero 1 0 refl)) } }

@@ -1,5 +1,0 @@
-use Rattle.frac_128.proofs.Reading.{whole-lowest}
-use Rattle.ray_merge.proofs.tests.whole.Goals as goal
-
-pub invariant_of-result : goal.invariant_of-result
-invariant_of-result c = record { lowest = whole-lowest _ }

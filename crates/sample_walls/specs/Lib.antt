@@ -1,0 +1,2 @@
+pub mod LowFunctions
+pub mod Samples

@@ -1,0 +1,309 @@
+-- From what was read and given to what a job keeps.
+use Rattle.std.proofs.Common.{◌≡◌, ℕ, ◌-◌, ◌<◌, ◌^◌, refl, sym, ◌∙◌, subst, ◌⊎◌, inl, inr, List, [], ◌∷◌, arith}
+use Rattle.std.specs.Prelude.{Option, Some, None, IfSome, decimal, codes}
+use Rattle.std.proofs.lemmas.Fmt.{decimal_injective}
+use Rattle.outside_io.specs.Outside.{Rose}
+use Rattle.scatter_diagram.specs.Stopped.{cause_of}
+use Rattle.scatter_text.specs.declared.fault.LimitKind.{LimitKind}
+use Rattle.scatter_text.specs.declared.fault.LimitKind.TheVariants.{Bytes}
+use Rattle.scatter_run.specs.declared.words.Job.{Job}
+use Rattle.scatter_run.specs.declared.words.Job.TheVariants.{Complete}
+use Rattle.scatter_run.specs.declared.status.Status.{Status}
+use Rattle.scatter_run.specs.declared.status.Status.TheVariants.{Done, Words, Text, Limit, Stopped, ReadFault, WriteFault, Memory}
+use Rattle.scatter_run.specs.Words.{AreCompleteWords, AreWordsOf, NameNoJob}
+use Rattle.scatter_run.specs.Reading.{IsReadWhole, IsTooLong}
+use Rattle.scatter_run.specs.Writing.{IsWritten, IsCutShort}
+use Rattle.scatter_run.specs.Outcome.{IsCompleteOutcome, IsLimited, IsAccepted, IsJobOutcome, IsJobAccepted, IsRunOutcome, IsRunAccepted, IsVerdict, SaysRead, read_fault_text, words_fault_text, limit_fault_text}
+use Rattle.scatter_run.specs.Promise.{IsKept, IsDue, IsGiven}
+
+no-rise : (n m : ℕ) → n < 2 ^ 64 - 1 → Rose n m → m ≡ n → ⊥
+no-rise n m small rose same = omega (arith, rose)
+
+pub none-some : (k : LimitKind) → None ≡ Some k → ⊥
+none-some k e = cc
+
+told : (P : List ℕ → Type 0) (left : Option (List ℕ)) → ((bytes : List ℕ) → P bytes) → IfSome left P
+told P None h = tt
+told P (Some bytes) h = h bytes
+
+-- ---- any job, whose bytes have no outcome but Done where they are accepted
+module _ (Answers : List ℕ → Status → List ℕ → Type 0) (Accepts : List ℕ → Type 0)
+    (left rest : Option (List ℕ)) (f f' : ℕ) (held after : Option (List ℕ)) (k k' : ℕ) where
+  no-write : ReadFault ≡ WriteFault → ⊥
+  no-write e = cc
+
+  no-memory : ReadFault ≡ Memory → ⊥
+  no-memory e = cc
+
+  no-read : WriteFault ≡ ReadFault → ⊥
+  no-read e = cc
+
+  unwritten : WriteFault ≡ Memory → ⊥
+  unwritten e = cc
+
+  memory-read : Memory ≡ ReadFault → ⊥
+  memory-read e = cc
+
+  memory-write : Memory ≡ WriteFault → ⊥
+  memory-write e = cc
+
+  -- a write failed
+  cut_kept : (text : List ℕ) → k < 2 ^ 64 - 1 → IsDue Answers left rest f f' text → Rose k k' → IsCutShort held after text
+      → IsKept Answers Accepts left rest f f' held after k k' WriteFault
+  cut_kept text small due rose cut = record {
+    outcome = told _ left (λ bytes v. absurd v);
+    complete = told _ left (λ bytes ok e e'. absurd (no-rise k k' small rose e'));
+    read = λ e. absurd (no-read e);
+    read_text = λ e. absurd (no-read e);
+    write = λ e. rose;
+    write_text = λ e. (text, due, cut);
+    memory = λ e. absurd (unwritten e);
+    memory_alone = λ e. absurd (unwritten e);
+    to_end = told _ left (λ bytes says. absurd says);
+  }
+
+  -- memory was wanting before anything was written
+  pub memory_kept : f' ≡ f → after ≡ held → k' ≡ k → IsKept Answers Accepts left rest f f' held after k k' Memory
+  memory_kept e h e' = record {
+    outcome = told _ left (λ bytes v. absurd v);
+    complete = told _ left (λ bytes ok a b. inr refl);
+    read = λ w. absurd (memory-read w);
+    read_text = λ w. absurd (memory-read w);
+    write = λ w. absurd (memory-write w);
+    write_text = λ w. absurd (memory-write w);
+    memory = λ w. h;
+    memory_alone = λ w. (e, e');
+    to_end = told _ left (λ bytes says. absurd says);
+  }
+
+  read-told : Rose f f' → f < 2 ^ 64 - 1 → IsWritten held after read_fault_text → IsKept Answers Accepts left rest f f' held after k k' ReadFault
+  read-told rose small written = record {
+    outcome = told _ left (λ bytes v. absurd v);
+    complete = told _ left (λ bytes ok e e'. absurd (no-rise f f' small rose e));
+    read = λ e. rose;
+    read_text = λ e. (read_fault_text, refl, written);
+    write = λ e. absurd (no-write e);
+    write_text = λ e. absurd (no-write e);
+    memory = λ e. absurd (no-memory e);
+    memory_alone = λ e. absurd (no-memory e);
+    to_end = told _ left (λ bytes says. absurd says);
+  }
+
+  -- a read failed
+  pub read_kept : (result : Status) → f < 2 ^ 64 - 1 → k < 2 ^ 64 - 1 → Rose f f' → IsGiven held after k k' ReadFault read_fault_text result
+      → IsKept Answers Accepts left rest f f' held after k k' result
+  read_kept result small small' rose (inl g) =
+      subst (λ (s : Status). IsKept Answers Accepts left rest f f' held after k k' s) (sym g.0) (read-told rose small g.1)
+  read_kept result small small' rose (inr g) =
+      subst (λ (s : Status). IsKept Answers Accepts left rest f f' held after k k' s) (sym g.0)
+      (cut_kept read_fault_text small' (inr (rose, refl)) g.1 g.2)
+
+  abbrev IsAnswered : Status → List ℕ → Type 0
+  IsAnswered status text = IfSome left (λ bytes. Answers bytes status text × (SaysRead status → rest ≡ Some []))
+
+  outcome-of : (status : Status) (text : List ℕ) → IsAnswered status text → IsWritten held after text
+      → IfSome left (λ bytes. IsVerdict status → (t : List ℕ) × Answers bytes status t × IsWritten held after t)
+  outcome-of status text = go left
+    where
+      go : (l : Option (List ℕ)) → IfSome l (λ bytes. Answers bytes status text × (SaysRead status → rest ≡ Some [])) → IsWritten held after text
+          → IfSome l (λ bytes. IsVerdict status → (t : List ℕ) × Answers bytes status t × IsWritten held after t)
+      go None a written = tt
+      go (Some bytes) a written = λ v. (text, a.0, written)
+
+  done-of : ((bytes : List ℕ) (s : Status) (t : List ℕ) → Answers bytes s t → Accepts bytes → s ≡ Done) → (status : Status) (text : List ℕ) → IsAnswered status text
+      → IfSome left (λ bytes. Accepts bytes → f' ≡ f → k' ≡ k → (status ≡ Done) ⊎ (status ≡ Memory))
+  done-of sole status text = go left
+    where
+      go : (l : Option (List ℕ)) → IfSome l (λ bytes. Answers bytes status text × (SaysRead status → rest ≡ Some []))
+          → IfSome l (λ bytes. Accepts bytes → f' ≡ f → k' ≡ k → (status ≡ Done) ⊎ (status ≡ Memory))
+      go None a = tt
+      go (Some bytes) a = λ ok e e'. inl (sole bytes status text a.0 ok)
+
+  end-of : (status : Status) (text : List ℕ) → IsAnswered status text → IfSome left (λ bytes. SaysRead status → rest ≡ Some [])
+  end-of status text = go left
+    where
+      go : (l : Option (List ℕ)) → IfSome l (λ bytes. Answers bytes status text × (SaysRead status → rest ≡ Some []))
+          → IfSome l (λ bytes. SaysRead status → rest ≡ Some [])
+      go None a = tt
+      go (Some bytes) a = a.1
+
+  due-of : (status : Status) (text : List ℕ) → IsAnswered status text → IsDue Answers left rest f f' text
+  due-of status text a = inl (go left a)
+    where
+      go : (l : Option (List ℕ)) → IfSome l (λ bytes. Answers bytes status text × (SaysRead status → rest ≡ Some []))
+          → IfSome l (λ bytes. (s : Status) × Answers bytes s text × (SaysRead s → rest ≡ Some []))
+      go None a = tt
+      go (Some bytes) a = (status, a.0, a.1)
+
+  -- a verdict
+  pub verdict_kept : ((bytes : List ℕ) (s : Status) (t : List ℕ) → Answers bytes s t → Accepts bytes → s ≡ Done) → (status result : Status) (text : List ℕ)
+      → k < 2 ^ 64 - 1 → IsVerdict status → IfSome left (λ bytes. Answers bytes status text × (SaysRead status → rest ≡ Some []))
+      → IsGiven held after k k' status text result → IsKept Answers Accepts left rest f f' held after k k' result
+  verdict_kept sole status result text small v a (inl g) =
+      subst (λ (s : Status). IsKept Answers Accepts left rest f f' held after k k' s) (sym g.0) (record {
+        outcome = outcome-of status text a g.1;
+        complete = done-of sole status text a;
+        read = λ e. absurd (subst IsVerdict e v);
+        read_text = λ e. absurd (subst IsVerdict e v);
+        write = λ e. absurd (subst IsVerdict e v);
+        write_text = λ e. absurd (subst IsVerdict e v);
+        memory = λ e. absurd (subst IsVerdict e v);
+        memory_alone = λ e. absurd (subst IsVerdict e v);
+        to_end = end-of status text a;
+      })
+  verdict_kept sole status result text small v a (inr g) =
+      subst (λ (s : Status). IsKept Answers Accepts left rest f f' held after k k' s) (sym g.0) (cut_kept text small (due-of status text a) g.1 g.2)
+
+-- ---- `complete`
+
+pub complete-sole : (order : ℕ) (bytes : List ℕ) (status : Status) (text : List ℕ) → IsCompleteOutcome order bytes status text → IsAccepted order bytes → status ≡ Done
+complete-sole order bytes Done text t ok = refl
+complete-sole order bytes Words text t ok = absurd t
+complete-sole order bytes (Text line kind) text t ok = absurd (ok.no_fault line kind t.fault)
+complete-sole order bytes (Limit kind) text t ok = absurd (passes t.0)
+  where
+    passes : IsLimited order kind bytes → ⊥
+    passes (inl h) = let long = h.1 in let short = ok.short in omega (arith, long, short)
+    passes (inr p) = none-some kind (sym (ok.no_limit p.file p.reads) ∙ p.passed)
+complete-sole order bytes (Stopped at cause) text t ok =
+    absurd (ok.no_stop t.file t.completed.given (at, cause_of cause) t.reads t.completed.lines t.completed.first)
+complete-sole order bytes ReadFault text t ok = absurd t
+complete-sole order bytes WriteFault text t ok = absurd t
+complete-sole order bytes Memory text t ok = absurd t
+
+pub complete-verdict : (order : ℕ) (bytes : List ℕ) (status : Status) (text : List ℕ) → IsCompleteOutcome order bytes status text → IsVerdict status
+complete-verdict order bytes Done text t = tt
+complete-verdict order bytes Words text t = tt
+complete-verdict order bytes (Text line kind) text t = tt
+complete-verdict order bytes (Limit kind) text t = tt
+complete-verdict order bytes (Stopped at cause) text t = tt
+complete-verdict order bytes ReadFault text t = absurd t
+complete-verdict order bytes WriteFault text t = absurd t
+complete-verdict order bytes Memory text t = absurd t
+
+pub complete-not_words : (order : ℕ) (bytes : List ℕ) (status result : Status) (text : List ℕ) (held after : Option (List ℕ)) (k k' : ℕ)
+    → IsCompleteOutcome order bytes status text → IsGiven held after k k' status text result → result ≡ Words → ⊥
+complete-not_words order bytes status result text held after k k' t (inl g) e = subst (λ (s : Status). IsCompleteOutcome order bytes s text) (sym g.0 ∙ e) t
+complete-not_words order bytes status result text held after k k' t (inr g) e = differ (sym g.0 ∙ e)
+  where
+    differ : WriteFault ≡ Words → ⊥
+    differ d = cc
+
+pub read-answered : (order : ℕ) (left rest : Option (List ℕ)) (bytes : List ℕ) (status : Status) (text : List ℕ) → IsReadWhole left rest bytes → IsCompleteOutcome order bytes status text
+    → IfSome left (λ bytes. IsCompleteOutcome order bytes status text × (SaysRead status → rest ≡ Some []))
+read-answered order None rest bytes status text whole t = tt
+read-answered order (Some all) rest bytes status text whole t =
+    (subst (λ (b : List ℕ). IsCompleteOutcome order b status text) (sym whole.0) t, λ says. whole.1)
+
+pub long-answered : (order : ℕ) (left rest : Option (List ℕ)) → IsTooLong left
+    → IfSome left (λ bytes. IsCompleteOutcome order bytes (Limit Bytes) (limit_fault_text Bytes) × (SaysRead (Limit Bytes) → rest ≡ Some []))
+long-answered order None rest long = tt
+long-answered order (Some bytes) rest long = ((inl (refl, long), refl), λ says. absurd (says refl))
+
+pub answer_kept : (order : ℕ) (left rest : Option (List ℕ)) (f f' : ℕ) (held after : Option (List ℕ)) (k k' : ℕ) (bytes seen text said : List ℕ) (status result : Status)
+    → k < 2 ^ 64 - 1 → IsReadWhole left rest bytes → seen ≡ bytes → IsCompleteOutcome order seen status text → said ≡ text → IsGiven held after k k' status said result
+    → IsKept (IsCompleteOutcome order) (IsAccepted order) left rest f f' held after k k' result
+answer_kept order left rest f f' held after k k' bytes seen text said status result small whole e t e' g =
+    verdict_kept (IsCompleteOutcome order) (IsAccepted order) left rest f f' held after k k' (complete-sole order) status result said small
+    (complete-verdict order seen status text t)
+    (read-answered order left rest bytes status said whole
+    (subst (λ (b : List ℕ). IsCompleteOutcome order b status said) e (subst (λ (x : List ℕ). IsCompleteOutcome order seen status x) (sym e') t))) g
+
+pub long_kept : (order : ℕ) (left rest : Option (List ℕ)) (f f' : ℕ) (held after : Option (List ℕ)) (k k' : ℕ) (result : Status)
+    → k < 2 ^ 64 - 1 → IsTooLong left → IsGiven held after k k' (Limit Bytes) (limit_fault_text Bytes) result
+    → IsKept (IsCompleteOutcome order) (IsAccepted order) left rest f f' held after k k' result
+long_kept order left rest f f' held after k k' result small long g =
+    verdict_kept (IsCompleteOutcome order) (IsAccepted order) left rest f f' held after k k' (complete-sole order) (Limit Bytes) result (limit_fault_text Bytes) small tt
+    (long-answered order left rest long) g
+
+-- ---- the table of jobs
+
+pub same_order : (words : List (List ℕ)) (o w o' w' : ℕ) → AreCompleteWords words o w → AreCompleteWords words o' w' → o ≡ o'
+same_order words o w o' w' a b =
+    let e : codes "complete" ∷ decimal o ∷ decimal w ∷ [] ≡ codes "complete" ∷ decimal o' ∷ decimal w' ∷ [] = sym a.words ∙ b.words in
+    let x = a.order_most in let y = b.order_most in
+    decimal_injective o o' (omega (arith, x)) (omega (arith, y)) cc
+
+accepted-same : (words : List (List ℕ)) (job other : Job) (bytes : List ℕ) → AreWordsOf words job → AreWordsOf words other → IsJobAccepted other bytes → IsJobAccepted job bytes
+accepted-same words (Complete o w) (Complete o' w') bytes a b ok = subst (λ (n : ℕ). IsAccepted n bytes) (same_order words o' w' o w b a) ok
+
+pub outcome-same : (words : List (List ℕ)) (job other : Job) (bytes : List ℕ) (status : Status) (text : List ℕ)
+    → AreWordsOf words job → AreWordsOf words other → IsJobOutcome other bytes status text → IsJobOutcome job bytes status text
+outcome-same words (Complete o w) (Complete o' w') bytes status text a b h =
+    subst (λ (n : ℕ). IsCompleteOutcome n bytes status text) (same_order words o' w' o w b a) h
+
+pub job-sole : (job : Job) (bytes : List ℕ) (status : Status) (text : List ℕ) → IsJobOutcome job bytes status text → IsJobAccepted job bytes → status ≡ Done
+job-sole (Complete o w) bytes status text t ok = complete-sole o bytes status text t ok
+
+job-not_words : (job : Job) (bytes text : List ℕ) → IsJobOutcome job bytes Words text → ⊥
+job-not_words (Complete o w) bytes text t = t
+
+-- ---- the words
+
+run-sole : (words : List (List ℕ)) (bytes : List ℕ) (status : Status) (text : List ℕ) → IsRunOutcome words bytes status text → IsRunAccepted words bytes → status ≡ Done
+run-sole words bytes Words text t ok = absurd (t.0 ok.0 ok.1)
+run-sole words bytes Done text t ok = refl
+run-sole words bytes (Text line kind) text t ok = job-sole ok.0 bytes (Text line kind) text (outcome-same words ok.0 t.0 bytes (Text line kind) text ok.1 t.1 t.2) ok.2
+run-sole words bytes (Limit kind) text t ok = job-sole ok.0 bytes (Limit kind) text (outcome-same words ok.0 t.0 bytes (Limit kind) text ok.1 t.1 t.2) ok.2
+run-sole words bytes (Stopped at cause) text t ok = job-sole ok.0 bytes (Stopped at cause) text (outcome-same words ok.0 t.0 bytes (Stopped at cause) text ok.1 t.1 t.2) ok.2
+run-sole words bytes ReadFault text t ok = job-sole ok.0 bytes ReadFault text (outcome-same words ok.0 t.0 bytes ReadFault text ok.1 t.1 t.2) ok.2
+run-sole words bytes WriteFault text t ok = job-sole ok.0 bytes WriteFault text (outcome-same words ok.0 t.0 bytes WriteFault text ok.1 t.1 t.2) ok.2
+run-sole words bytes Memory text t ok = job-sole ok.0 bytes Memory text (outcome-same words ok.0 t.0 bytes Memory text ok.1 t.1 t.2) ok.2
+
+run-outcome : (words : List (List ℕ)) (job : Job) (bytes : List ℕ) (status : Status) (text : List ℕ) → AreWordsOf words job → IsJobOutcome job bytes status text
+    → IsRunOutcome words bytes status text
+run-outcome words job bytes Words text a h = absurd (job-not_words job bytes text h)
+run-outcome words job bytes Done text a h = (job, a, h)
+run-outcome words job bytes (Text line kind) text a h = (job, a, h)
+run-outcome words job bytes (Limit kind) text a h = (job, a, h)
+run-outcome words job bytes (Stopped at cause) text a h = (job, a, h)
+run-outcome words job bytes ReadFault text a h = (job, a, h)
+run-outcome words job bytes WriteFault text a h = (job, a, h)
+run-outcome words job bytes Memory text a h = (job, a, h)
+
+-- words of no job
+pub words_kept : (words : List (List ℕ)) (left : Option (List ℕ)) (f : ℕ) (held after : Option (List ℕ)) (k k' : ℕ) (result : Status) → k < 2 ^ 64 - 1 → NameNoJob words
+    → IsGiven held after k k' Words words_fault_text result → IsKept (IsRunOutcome words) (IsRunAccepted words) left left f f held after k k' result
+words_kept words left f held after k k' result small none g =
+    verdict_kept (IsRunOutcome words) (IsRunAccepted words) left left f f held after k k' (run-sole words) Words result words_fault_text small tt
+    (told _ left (λ bytes. ((none, refl), λ says. absurd says))) g
+
+-- words of a job
+pub job_kept : (words : List (List ℕ)) (job : Job) (left rest : Option (List ℕ)) (f f' : ℕ) (held after : Option (List ℕ)) (k k' : ℕ) (result : Status) → AreWordsOf words job
+    → IsKept (IsJobOutcome job) (IsJobAccepted job) left rest f f' held after k k' result
+    → IsKept (IsRunOutcome words) (IsRunAccepted words) left rest f f' held after k k' result
+job_kept words job left rest f f' held after k k' result a p = record {
+  outcome = outcome left p.outcome;
+  complete = complete left p.complete;
+  read = p.read;
+  read_text = p.read_text;
+  write = p.write;
+  write_text = λ e. let w = p.write_text e in (w.0, due left w.0 w.1, w.2);
+  memory = p.memory;
+  memory_alone = p.memory_alone;
+  to_end = p.to_end;
+}
+  where
+    outcome : (l : Option (List ℕ)) → IfSome l (λ bytes. IsVerdict result → (t : List ℕ) × IsJobOutcome job bytes result t × IsWritten held after t)
+        → IfSome l (λ bytes. IsVerdict result → (t : List ℕ) × IsRunOutcome words bytes result t × IsWritten held after t)
+    outcome None h = tt
+    outcome (Some bytes) h = λ v. let w = h v in (w.0, run-outcome words job bytes result w.0 a w.1, w.2)
+
+    complete : (l : Option (List ℕ)) → IfSome l (λ bytes. IsJobAccepted job bytes → f' ≡ f → k' ≡ k → (result ≡ Done) ⊎ (result ≡ Memory))
+        → IfSome l (λ bytes. IsRunAccepted words bytes → f' ≡ f → k' ≡ k → (result ≡ Done) ⊎ (result ≡ Memory))
+    complete None h = tt
+    complete (Some bytes) h = λ ok. h (accepted-same words job ok.0 bytes a ok.1 ok.2)
+
+    due : (l : Option (List ℕ)) (text : List ℕ) → IsDue (IsJobOutcome job) l rest f f' text → IsDue (IsRunOutcome words) l rest f f' text
+    due None text (inl h) = inl tt
+    due (Some bytes) text (inl h) = inl (h.0, run-outcome words job bytes h.0 text a h.1, h.2)
+    due l text (inr h) = inr h
+
+-- words of `complete`, whose order is read off the job
+pub complete_words_kept : (words : List (List ℕ)) (order_of : Job → ℕ) (job : Job) (left rest : Option (List ℕ)) (f f' : ℕ) (held after : Option (List ℕ)) (k k' : ℕ) (result : Status)
+    → ((order workers : ℕ) → order_of (Complete order workers) ≡ order) → AreWordsOf words job
+    → IsKept (IsCompleteOutcome (order_of job)) (IsAccepted (order_of job)) left rest f f' held after k k' result
+    → IsKept (IsRunOutcome words) (IsRunAccepted words) left rest f f' held after k k' result
+complete_words_kept words order_of (Complete o w) left rest f f' held after k k' result e a p =
+    job_kept words (Complete o w) left rest f f' held after k k' result a
+    (subst (λ (n : ℕ). IsKept (IsCompleteOutcome n) (IsAccepted n) left rest f f' held after k k' result) (e o w) p)

@@ -1,0 +1,60 @@
+-- What a job keeps of its source, its sink and its status.
+use Rattle.std.specs.Prelude.{◌≡◌, ℕ, ◌⊎◌, List, [], Option, Some, IfSome}
+use Rattle.outside_io.specs.Outside.{Rose}
+use Rattle.scatter_run.specs.Outcome.{IsRunOutcome, IsVerdict, SaysRead, read_fault_text}
+use Rattle.scatter_run.specs.Writing.{IsWritten, IsCutShort}
+use Rattle.scatter_run.specs.declared.status.Status.{Status}
+use Rattle.scatter_run.specs.declared.status.Status.TheVariants.{Done, ReadFault, WriteFault, Memory}
+
+-- a text with this fact was written, where the sink tells
+abbrev pub HasWritten : Option (List ℕ) → Option (List ℕ) → (List ℕ → Type 0) → Type 0
+HasWritten before after P = (text : List ℕ) × P text × IsWritten before after text
+
+-- a proper prefix of a text with this fact was written, where the sink tells
+abbrev pub HasWrittenPart : Option (List ℕ) → Option (List ℕ) → (List ℕ → Type 0) → Type 0
+HasWrittenPart before after P = (text : List ℕ) × P text × IsCutShort before after text
+
+-- the text of an outcome of these bytes, which were read to their end where its status says so, or of a read fault that was counted
+abbrev pub IsDue : (List ℕ → Status → List ℕ → Type 0) → Option (List ℕ) → Option (List ℕ) → ℕ → ℕ → List ℕ → Type 0
+IsDue Answers left rest before now text =
+    IfSome left (λ bytes. (status : Status) × Answers bytes status text × (SaysRead status → rest ≡ Some []))
+    ⊎ (Rose before now × (text ≡ read_fault_text))
+
+-- What holds of a job with these outcomes, which accepts these bytes, by the source's bytes and faults and the
+-- sink's bytes and faults, each before and after.
+pub record IsKept (Answers : List ℕ → Status → List ℕ → Type 0) (Accepts : List ℕ → Type 0)
+    (left rest : Option (List ℕ)) (misread misread' : ℕ) (held after : Option (List ℕ)) (refused refused' : ℕ) (status : Status) : Type 0 where
+  -- the status is that of the outcome of the bytes, and the outcome's text was written
+  pub outcome : IfSome left (λ bytes. IsVerdict status → HasWritten held after (Answers bytes status))
+  -- where nothing is wrong and nothing failed, all is done, or memory was wanting
+  pub complete : IfSome left (λ bytes. Accepts bytes → misread' ≡ misread → refused' ≡ refused → (status ≡ Done) ⊎ (status ≡ Memory))
+  -- a read fault is answered only where it was counted, and told
+  pub read : status ≡ ReadFault → Rose misread misread'
+  pub read_text : status ≡ ReadFault → HasWritten held after (λ text. text ≡ read_fault_text)
+  -- a write fault is answered only where it was counted, after a part of what was due
+  pub write : status ≡ WriteFault → Rose refused refused'
+  pub write_text : status ≡ WriteFault → HasWrittenPart held after (IsDue Answers left rest misread misread')
+  -- want of memory comes before the first write, and where nothing failed
+  pub memory : status ≡ Memory → after ≡ held
+  pub memory_alone : status ≡ Memory → (misread' ≡ misread) × (refused' ≡ refused)
+  -- the source was read to its end
+  pub to_end : IfSome left (λ bytes. SaysRead status → rest ≡ Some [])
+
+-- the same of a source and a sink by how they are seen
+abbrev pub KeepsPromise : {S K : Type 0} → (S → Option (List ℕ)) → (S → ℕ) → (K → Option (List ℕ)) → (K → ℕ) → S → S → K → K
+    → (List ℕ → Status → List ℕ → Type 0) → (List ℕ → Type 0) → Status → Type 0
+KeepsPromise left misread held refused source source' sink sink' Answers Accepts status =
+    IsKept Answers Accepts (left source) (left source') (misread source) (misread source') (held sink) (held sink') (refused sink) (refused sink') status
+
+-- an outcome of the words and the bytes that are left has this status, and its text was written
+abbrev pub IsOnlyOutcome : List (List ℕ) → Option (List ℕ) → Option (List ℕ) → Option (List ℕ) → Status → Type 0
+IsOnlyOutcome words left held after result =
+    IfSome left (λ bytes. IsVerdict result → (status : Status) (text : List ℕ) → IsRunOutcome words bytes status text
+    → (status ≡ result) × IsWritten held after text)
+
+-- ---- between reading and writing
+
+-- the answer was written whole, or a write failed
+abbrev pub IsGiven : Option (List ℕ) → Option (List ℕ) → ℕ → ℕ → Status → List ℕ → Status → Type 0
+IsGiven held after before now status text result =
+    ((result ≡ status) × IsWritten held after text) ⊎ ((result ≡ WriteFault) × Rose before now × IsCutShort held after text)

@@ -1,0 +1,2 @@
+pub mod SortedSums
+pub mod ProductConditions

@@ -1,9 +1,0 @@
-use Rattle.std.proofs.Common.{arith, [], ◌∷◌}
-use Rattle.std.specs.Prelude.{pos}
-use Rattle.std.proofs.lemmas.Result.{IfOk-weaker}
-use Rattle.trunc_series.specs.Worked.{t1x}
-use Rattle.trunc_series.proofs.Unique.{series-terms}
-use Rattle.trunc_series.proofs.tests.single.Goals as goal
-
-pub returns-clause-terms : goal.returns-clause-terms
-returns-clause-terms c = IfOk-weaker c.monomial.result _ _ (λ s h. series-terms s 2 2 ((t1x, pos 1) ∷ []) h record { rises = (tt, tt); nonzero = ((λ e. cc), tt); low = (omega arith, tt) }) c.monomial.ensures
