@@ -45,7 +45,8 @@ impl Fraction {
 
     /// The product, or None where its numerator or denominator in lowest terms leaves 128 bits.
     pub fn checked_mul(self, other: Fraction) -> Option<Fraction>
-        ensures product { IfSome result (λ p. IsFractionProduct self.num self.den other.num other.den p.num p.den) }
+        ensures product { IfSome result
+            (λ p. IsFractionProduct self.num self.den other.num other.den p.num p.den) }
         ensures fits { IsSome result ↔ LowestFits (self.num *ℤ other.num) (self.den *ℤ other.den) }
     {
         // Either numerator loses what it shares with the other denominator, so that the factors

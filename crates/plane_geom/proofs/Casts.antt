@@ -155,3 +155,19 @@ plus-fits110 x y h k = omega (arith, ints, h, k)
 
 pub minus-fits64 : (x y : ℤ) → nat_abs x ≤ 2 ^ 24 → nat_abs y ≤ 2 ^ 24 → FitsSigned w64 (to_z w64 (of_z w64 x) -ℤ to_z w64 (of_z w64 y))
 minus-fits64 x y h k = omega (arith, ints, h, k)
+
+-- a number that is passed keeps its bound
+pub near-passed : (x : ℤ) → nat_abs x ≤ 2 ^ 40 → nat_abs (to_z w64 (of_z w64 x)) ≤ 2 ^ 40
+near-passed x h = rw (back64 x h) h
+
+pub small-passed : (x : ℤ) → nat_abs x ≤ 2 ^ 12 → nat_abs (to_z w32 (of_z w32 x)) ≤ 2 ^ 12
+small-passed x h = rw (back32 x h) h
+
+pub turn-passed : (x : ℤ) → nat_abs x ≤ 2 ^ 25 → nat_abs (to_z w64 (of_z w64 x)) ≤ 2 ^ 25
+turn-passed x h = rw (back25 x h) h
+
+pub product-passed : (x : ℤ) → nat_abs x ≤ 2 ^ 80 → nat_abs (to_z w128 (of_z w128 x)) ≤ 2 ^ 80
+product-passed x h = rw (back107 x (omega (arith, h))) h
+
+pub numerator-passed : (x : ℤ) → nat_abs x ≤ 2 ^ 94 → nat_abs (to_z w128 (of_z w128 x)) ≤ 2 ^ 94
+numerator-passed x h = rw (back94 x h) h

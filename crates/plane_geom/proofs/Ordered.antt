@@ -1,20 +1,21 @@
 -- The orders of points and of angles.
-use Rattle.std.proofs.Common.{◌≡◌, refl, sym, ap, ◌∙◌, ◌⊎◌, inl, inr, Bool, true, false, cond, arith}
-use Rattle.std.specs.Prelude.{ℤ, int_lt, ◌&&◌, ◌||◌, ◌↔◌, IsTrue}
+use Rattle.std.proofs.Common.{◌≡◌, refl, sym, ap, ◌∙◌, ◌⊎◌, inl, inr, Bool, true, false, cond, not, arith}
+use Rattle.std.specs.Prelude.{ℤ, pos, neg_ℤ, int_lt, ◌&&◌, ◌||◌, ◌↔◌, IsTrue}
 use Rattle.std.specs.Ordering.{int_cmp, ordering_reverse}
 use Rattle.std.specs.Cmp.{IsTotalOrder}
 use Rattle.std.specs.declared.cmp.Ordering.{Ordering}
 use Rattle.std.specs.declared.cmp.Ordering.TheVariants.{Less, Equal, Greater}
 use Rattle.std.proofs.lemmas.Int.{ints}
-use Rattle.scattering.specs.Series.{Exp, int_eq}
-use Rattle.scattering.specs.Plane.{Point as PlanePoint, IsPoint, IsDirection, point_before, turns_before}
+use Rattle.scattering.specs.Series.{Exp, int_eq, det}
+use Rattle.scattering.specs.Plane.{Point as PlanePoint, IsPoint, IsDirection, point_before, is_upper, turns_before}
 use Rattle.plane_theory.proofs.PointOrder.{before-trans, before-irrefl, before-total}
 use Rattle.plane_geom.specs.declared.Point.{Point}
 use Rattle.plane_geom.specs.declared.Direction.{Direction}
 use Rattle.plane_theory.proofs.Angles.{turns-trans, turns-out, turned-irrefl}
 use Rattle.plane_theory.proofs.AngleTies.{ties-are-multiples, multiples-equal}
 use Rattle.plane_theory.proofs.Directions.{direction-not_origin}
-use Rattle.plane_geom.specs.Shown.{vector_of, point_of, angle_order, position_order}
+use Rattle.plane_geom.specs.Shown.{vector_of, point_of, turn_order, angle_order, order_of, position_order}
+use Rattle.plane_geom.proofs.Meets.{det-back}
 
 -- ---- two numbers, then two more
 abbrev pub then_order : ℤ → ℤ → ℤ → ℤ → Ordering
@@ -96,6 +97,36 @@ angles-ordered = seen-total IsDirection turns_before angle-irrefl angle-trans an
 
 pub angles-equal : (d e : Direction) (r : Ordering) → r ≡ angle_order d e → (r ≡ Equal) ↔ (vector_of d ≡ vector_of e)
 angles-equal d e r h = equal-clause IsDirection turns_before angle-irrefl angle-trans angle-ties (vector_of d) (vector_of e) r d.primitive e.primitive h
+
+-- two angles by their halves and the sign of a determinant
+abbrev goes_first : Bool → Bool → ℤ → Bool
+goes_first u v t = (u && not v) || ((not v || u) && (not u || v) && int_lt (pos 0) t)
+
+abbrev order_by : Bool → Bool → ℤ → ℤ → Ordering
+order_by u v t s = cond (goes_first u v t) Less (cond (goes_first v u s) Greater Equal)
+
+turned-sign : (t : ℤ) → int_lt (pos 0) (neg_ℤ t) ≡ int_lt t (pos 0)
+turned-sign t = grind (arith, ints)
+
+by-sign : (u v b : Bool) → b ≡ u → b ≡ v → (t : ℤ) → order_of t ≡ order_by u v t (neg_ℤ t)
+by-sign u v true p q t = rw (← p, ← q, turned-sign t) refl
+by-sign u v false p q t = rw (← p, ← q, turned-sign t) refl
+
+-- in one half the sign of the determinant decides
+pub one-half : (d e : Exp) (b : Bool) → b ≡ is_upper d → b ≡ is_upper e → (t : ℤ) → t ≡ det d e → order_of t ≡ turn_order d e
+one-half d e b p q t k = ap order_of k ∙ by-sign (is_upper d) (is_upper e) b p q (det d e) ∙ ap (λ s. order_by (is_upper d) (is_upper e) (det d e) s) (sym (det-back d e))
+
+upper-less : (u v : Bool) → true ≡ u → false ≡ v → (t s : ℤ) → Less ≡ order_by u v t s
+upper-less u v p q t s = rw (← p, ← q) refl
+
+upper-greater : (u v : Bool) → false ≡ u → true ≡ v → (t s : ℤ) → Greater ≡ order_by u v t s
+upper-greater u v p q t s = rw (← p, ← q) refl
+
+pub first-upper : (d e : Exp) → true ≡ is_upper d → false ≡ is_upper e → Less ≡ turn_order d e
+first-upper d e p q = upper-less (is_upper d) (is_upper e) p q (det d e) (det e d)
+
+pub second-upper : (d e : Exp) → false ≡ is_upper d → true ≡ is_upper e → Greater ≡ turn_order d e
+second-upper d e p q = upper-greater (is_upper d) (is_upper e) p q (det d e) (det e d)
 
 -- ---- points
 point-irrefl : (p : PlanePoint) → IsPoint p → point_before p p ≡ true → ⊥

@@ -25,7 +25,8 @@ fn ahead(at: &Point, dir: &Direction, p: &Point) -> i128
 /// The sign of det(dir, p - at): 1 where the point lies to the left of the line through `at` along
 /// `dir`, 0 on it, -1 to its right.
 pub fn side(at: &Point, dir: &Direction, p: &Point) -> i32
-    ensures { result ≡ signum (det (vector_of dir.now) (difference (point_of at.now) (point_of p.now))) }
+    ensures { result ≡ signum
+        (det (vector_of dir.now) (difference (point_of at.now) (point_of p.now))) }
 {
     let turn = turn(at, dir, p);
     if turn < 0 {

@@ -1,28 +1,21 @@
 -- The program's lists of rays, merged one ray at a time.
-use Rattle.std.proofs.Common.{◌≡◌, ℕ, ◌+◌, ◌<◌, ◌≤◌, zero, suc, sym, subst, ap, ◌∙◌, List, [], ◌∷◌, ◌++◌, length, get_or, drop, add-one, drop-cons, arith, inl, inr, ◌⊎◌}
-use Rattle.std.specs.declared.cmp.Ordering.TheVariants.{Less, Equal, Greater}
-use Rattle.std.proofs.lemmas.List.{drop_all}
+use Rattle.std.proofs.Common.{◌≡◌, ℕ, ◌≤◌, ap, List, [], ◌∷◌, ◌++◌, arith, inl, inr, ◌⊎◌}
+use Rattle.std.specs.declared.cmp.Ordering.{Ordering}
+use Rattle.std.specs.declared.cmp.Ordering.TheVariants.{Equal}
 use Rattle.scattering.specs.Collections.{Every}
 use Rattle.scattering.specs.Wall.{Wall, Outgoing}
 use Rattle.scattering.specs.Completion.{IsReduced}
 use Rattle.scattering.proofs.Lists.{Every-append, Every-implies, map-append}
 use Rattle.plane_theory.proofs.TotalOrder.{Place}
+use Rattle.trunc_series.specs.Fronts.{IsFirst, first_after, second_after}
+use Rattle.trunc_series.proofs.Fronts.{first-of, first-has, second-has, first-map, second-map, map-first}
 use Rattle.scatter_diagram.specs.declared.wall.Wall.{Wall as CodeWall}
 use Rattle.scatter_diagram.specs.Shown.{wall_of, walls_of}
 use Rattle.scatter_diagram.specs.Listed.{AreOfOrder, AreRays}
-use Rattle.scatter_diagram.proofs.Walls.{wall-at}
-use Rattle.ray_merge.specs.Rays.{ray_order, IsJoinable, IsJoined, AreRaysTo, AreJoinable}
-use Rattle.ray_merge.proofs.Steps.{IsRay, Merging, Merged, start, step-less, step-greater, take-both, one-place, ended}
+use Rattle.ray_merge.specs.Rays.{ray_order, IsJoinable, IsFirstRay, AreRaysTo, AreJoinable}
+use Rattle.ray_merge.proofs.Steps.{IsRay, Merging, Merged, start, step, one-place, ended}
 
 -- ---- lists
-
-pub walls-drop : (ws : List CodeWall) (i : ℕ) (w : CodeWall) → i < length ws → w ≡ get_or ws i w → walls_of (drop i ws) ≡ wall_of w ∷ walls_of (drop (i + 1) ws)
-walls-drop ws i w h e = rw (add-one, drop-cons ws i w) (ap (λ (v : CodeWall). wall_of v ∷ walls_of (drop (suc i) ws)) (sym e))
-
-pub order-at : (P : CodeWall → Type 0) (ws : List CodeWall) (i : ℕ) (w : CodeWall) → i < length ws → w ≡ get_or ws i w → Every P ws → P w
-order-at P [] i w l e h = absurd (omega (arith, l))
-order-at P (v ∷ ws) zero w l e h = subst P (sym e) h.0
-order-at P (v ∷ ws) (suc i) w l e h = order-at P ws i w (omega (arith, l)) e h.1
 
 pub order-push : (n : ℕ) (out : List CodeWall) (w : CodeWall) → AreOfOrder n out → w.function.order ≡ n → AreOfOrder n (out ++ w ∷ [])
 order-push n out w h e = Every-append (λ (v : CodeWall). v.function.order ≡ n) out (w ∷ []) h (e, tt)
@@ -39,50 +32,42 @@ up-to n ws h = record { order = Every-implies (λ (w : CodeWall). w.function.ord
 
 -- ---- the merge
 
+-- two rays that are equal in the order
+pub one-start : (x y : CodeWall) → ray_order (wall_of x) (wall_of y) ≡ Equal → (wall_of x).at ≡ (wall_of y).at
+one-start x y e = ap (λ (q : Place). q.0) (one-place (wall_of x) (wall_of y) x.at.reduced y.at.reduced e)
+
+pub one-direction : (x y : CodeWall) → ray_order (wall_of x) (wall_of y) ≡ Equal → (wall_of x).dir ≡ (wall_of y).dir
+one-direction x y e = ap (λ (q : Place). q.1) (one-place (wall_of x) (wall_of y) x.at.reduced y.at.reduced e)
+
+pub joinable-first : (n : ℕ) (xs ys : List CodeWall) (x y : CodeWall) → IsFirst x xs → IsFirst y ys → AreJoinable n (walls_of xs) (walls_of ys) → ray_order (wall_of x) (wall_of y) ≡ Equal → IsJoinable n (wall_of x) (wall_of y)
+joinable-first n xs ys x y f g h e =
+    first-of (λ (s : Wall). (wall_of x).at ≡ s.at → (wall_of x).dir ≡ s.dir → IsJoinable n (wall_of x) s) (wall_of y) (walls_of ys) (map-first wall_of y ys g)
+    (first-of (λ (r : Wall). Every (λ s. r.at ≡ s.at → r.dir ≡ s.dir → IsJoinable n r s) (walls_of ys)) (wall_of x) (walls_of xs) (map-first wall_of x xs f) h) (one-start x y e) (one-direction x y e)
+
+pub joinable-rests : (n : ℕ) (o : Ordering) (xs ys : List CodeWall) → AreJoinable n (walls_of xs) (walls_of ys) → AreJoinable n (walls_of (first_after o xs)) (walls_of (second_after o ys))
+joinable-rests n o xs ys h =
+    rw (first-map wall_of o xs, second-map wall_of o ys)
+    (Every-implies (λ (r : Wall). Every (λ s. r.at ≡ s.at → r.dir ≡ s.dir → IsJoinable n r s) (walls_of ys)) (λ r. Every (λ s. r.at ≡ s.at → r.dir ≡ s.dir → IsJoinable n r s) (second_after o (walls_of ys))) (first_after o (walls_of xs))
+    (λ r k. second-has (λ (s : Wall). r.at ≡ s.at → r.dir ≡ s.dir → IsJoinable n r s) o (walls_of ys) k) (first-has (λ (r : Wall). Every (λ s. r.at ≡ s.at → r.dir ≡ s.dir → IsJoinable n r s) (walls_of ys)) o (walls_of xs) h))
+
 module _ (n : ℕ) (a b : List CodeWall) where
   pub begun : AreRaysTo n a → AreRaysTo n b → Merging n (walls_of a) (walls_of b) [] (walls_of a) (walls_of b)
   begun ha hb = start n (walls_of a) (walls_of b) (are-rays n a ha) (are-rays n b hb) ha.reduced.rises hb.reduced.rises
 
-  module _ (out after : List CodeWall) (i j : ℕ) (x y w : CodeWall) (li : i < length a) (lj : j < length b) (xa : x ≡ get_or a i x) (yb : y ≡ get_or b j y) (pushed : after ≡ out ++ w ∷ [])
-      (m : Merging n (walls_of a) (walls_of b) (walls_of out) (walls_of (drop i a)) (walls_of (drop j b))) where
-    more : walls_of after ≡ walls_of out ++ wall_of w ∷ []
-    more = ap walls_of pushed ∙ map-append wall_of out (w ∷ [])
+  -- the first of two rays is taken
+  pub taken : (out xs ys : List CodeWall) (x y w : CodeWall) (o : Ordering) → IsFirst x xs → IsFirst y ys → Merging n (walls_of a) (walls_of b) (walls_of out) (walls_of xs) (walls_of ys)
+      → o ≡ ray_order (wall_of x) (wall_of y) → IsFirstRay n o (wall_of x) (wall_of y) (wall_of w) → Merging n (walls_of a) (walls_of b) (walls_of (out ++ w ∷ [])) (walls_of (first_after o xs)) (walls_of (second_after o ys))
+  taken out xs ys x y w o f g m e h =
+      rw (map-append wall_of out (w ∷ []), first-map wall_of o xs, second-map wall_of o ys, f.1, g.1)
+      (step n (walls_of a) (walls_of b) (walls_of out) (walls_of f.0) (walls_of g.0) (wall_of x) (wall_of y) (wall_of w) o (rw (f.1, g.1) at m) e h)
 
-    both : Merging n (walls_of a) (walls_of b) (walls_of out) (wall_of x ∷ walls_of (drop (i + 1) a)) (wall_of y ∷ walls_of (drop (j + 1) b))
-    both = subst (λ (r : List Wall). Merging n (walls_of a) (walls_of b) (walls_of out) r (wall_of y ∷ walls_of (drop (j + 1) b))) (walls-drop a i x li xa) (subst (λ (s : List Wall). Merging n (walls_of a) (walls_of b) (walls_of out) (walls_of (drop i a)) s) (walls-drop b j y lj yb) m)
-
-    pub after-less : wall_of w ≡ wall_of x → ray_order (wall_of x) (wall_of y) ≡ Less → Merging n (walls_of a) (walls_of b) (walls_of after) (walls_of (drop (i + 1) a)) (walls_of (drop j b))
-    after-less same e =
-        subst (λ (o : List Wall). Merging n (walls_of a) (walls_of b) o (walls_of (drop (i + 1) a)) (walls_of (drop j b))) (sym (more ∙ ap (λ (v : Wall). walls_of out ++ v ∷ []) same))
-        (subst (λ (s : List Wall). Merging n (walls_of a) (walls_of b) (walls_of out ++ wall_of x ∷ []) (walls_of (drop (i + 1) a)) s) (sym (walls-drop b j y lj yb)) (step-less n _ _ _ _ _ _ _ both e))
-
-    pub after-greater : wall_of w ≡ wall_of y → ray_order (wall_of x) (wall_of y) ≡ Greater → Merging n (walls_of a) (walls_of b) (walls_of after) (walls_of (drop i a)) (walls_of (drop (j + 1) b))
-    after-greater same e =
-        subst (λ (o : List Wall). Merging n (walls_of a) (walls_of b) o (walls_of (drop i a)) (walls_of (drop (j + 1) b))) (sym (more ∙ ap (λ (v : Wall). walls_of out ++ v ∷ []) same))
-        (subst (λ (r : List Wall). Merging n (walls_of a) (walls_of b) (walls_of out ++ wall_of y ∷ []) r (walls_of (drop (j + 1) b))) (sym (walls-drop a i x li xa)) (step-greater n _ _ _ _ _ _ _ both e))
-
-    pub after-equal : IsJoined n (wall_of x) (wall_of y) (wall_of w) → (wall_of x).at ≡ (wall_of y).at → (wall_of x).dir ≡ (wall_of y).dir → Merging n (walls_of a) (walls_of b) (walls_of after) (walls_of (drop (i + 1) a)) (walls_of (drop (j + 1) b))
-    after-equal joined e f = subst (λ (o : List Wall). Merging n (walls_of a) (walls_of b) o (walls_of (drop (i + 1) a)) (walls_of (drop (j + 1) b))) (sym more) (take-both n _ _ _ _ _ _ _ _ both e f joined)
-
-  -- two rays that are equal in the order
-  pub one-start : (x y : CodeWall) → ray_order (wall_of x) (wall_of y) ≡ Equal → (wall_of x).at ≡ (wall_of y).at
-  one-start x y e = ap (λ (q : Place). q.0) (one-place (wall_of x) (wall_of y) x.at.reduced y.at.reduced e)
-
-  pub one-direction : (x y : CodeWall) → ray_order (wall_of x) (wall_of y) ≡ Equal → (wall_of x).dir ≡ (wall_of y).dir
-  one-direction x y e = ap (λ (q : Place). q.1) (one-place (wall_of x) (wall_of y) x.at.reduced y.at.reduced e)
-
-  pub joinable-at : (i j : ℕ) (x y : CodeWall) → i < length a → j < length b → x ≡ get_or a i x → y ≡ get_or b j y → AreJoinable n (walls_of a) (walls_of b) → ray_order (wall_of x) (wall_of y) ≡ Equal → IsJoinable n (wall_of x) (wall_of y)
-  joinable-at i j x y li lj xa yb h e =
-      wall-at (λ (s : Wall). (wall_of x).at ≡ s.at → (wall_of x).dir ≡ s.dir → IsJoinable n (wall_of x) s) b j y lj yb
-      (wall-at (λ (r : Wall). Every (λ s. r.at ≡ s.at → r.dir ≡ s.dir → IsJoinable n r s) (walls_of b)) a i x li xa h) (one-start x y e) (one-direction x y e)
-
-  pub all-merged : (out : List CodeWall) (i j : ℕ) → (length a ≤ i) ⊎ (length b ≤ j) → Merging n (walls_of a) (walls_of b) (walls_of out) (walls_of (drop i a)) (walls_of (drop j b))
-      → Merged n (walls_of a) (walls_of b) ((walls_of out ++ walls_of (drop i a)) ++ walls_of (drop j b))
-  all-merged out i j e m = ended n (walls_of a) (walls_of b) (walls_of out) (walls_of (drop i a)) (walls_of (drop j b)) (over e) m
+  pub all-merged : (out xs ys : List CodeWall) → (xs ≡ []) ⊎ (ys ≡ []) → Merging n (walls_of a) (walls_of b) (walls_of out) (walls_of xs) (walls_of ys)
+      → Merged n (walls_of a) (walls_of b) ((walls_of out ++ walls_of xs) ++ walls_of ys)
+  all-merged out xs ys e m = ended n (walls_of a) (walls_of b) (walls_of out) (walls_of xs) (walls_of ys) (over e) m
     where
-      over : (length a ≤ i) ⊎ (length b ≤ j) → (walls_of (drop i a) ≡ []) ⊎ (walls_of (drop j b) ≡ [])
-      over (inl l) = inl (ap walls_of (drop_all i a l))
-      over (inr l) = inr (ap walls_of (drop_all j b l))
+      over : (xs ≡ []) ⊎ (ys ≡ []) → (walls_of xs ≡ []) ⊎ (walls_of ys ≡ [])
+      over (inl l) = inl (ap walls_of l)
+      over (inr l) = inr (ap walls_of l)
 
 -- what the merged list has
 pub merged-are-rays : (n : ℕ) (a b : List Wall) (out : List CodeWall) → AreOfOrder n out → Merged n a b (walls_of out) → AreRays n out

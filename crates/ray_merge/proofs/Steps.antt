@@ -2,6 +2,7 @@
 --     Merging n a b out r s    out is made of what came before the rests r of a and s of b
 use Rattle.std.proofs.Common.{◌≡◌, ℕ, ◌+◌, ◌≤◌, refl, sym, subst, ap, ◌∙◌, Bool, true, false, cond, List, [], ◌∷◌, ◌++◌, append_assoc, append-nil, arith, inl, inr, ◌⊎◌}
 use Rattle.std.specs.Prelude.{ℤ, pos, ◌+ℤ◌, ◌&&◌, IsTrue}
+use Rattle.std.specs.declared.cmp.Ordering.{Ordering}
 use Rattle.std.specs.declared.cmp.Ordering.TheVariants.{Less, Equal, Greater}
 use Rattle.std.proofs.lemmas.Int.{ints}
 use Rattle.sum_algebra.proofs.Ring.{nought, ring}
@@ -14,8 +15,9 @@ use Rattle.scattering.specs.Completion.{ray_before}
 use Rattle.scattering.specs.Correction.{ray_coef}
 use Rattle.scattering.proofs.Lists.{Every-implies, Every-append, Every-left, Every-right, pairs-append}
 use Rattle.plane_theory.proofs.TotalOrder.{Place, Compared, place_before, place-trans, place-total}
+use Rattle.trunc_series.specs.Fronts.{first_after, second_after}
 use Rattle.trunc_series.proofs.Terms.{is-less, is-greater, is-equal}
-use Rattle.ray_merge.specs.Rays.{load, ray_order, IsJoined, AreLoads, AreLoadsOfBoth}
+use Rattle.ray_merge.specs.Rays.{load, ray_order, IsJoined, IsFirstRay, AreLoads, AreLoadsOfBoth}
 
 abbrev place_of : Wall → Place
 place_of r = (r.at, r.dir)
@@ -152,12 +154,12 @@ take-both n a b out r s x y w h e f j = record {
 
 -- ---- the steps by how the first rays stand
 
-pub step-less : (n : ℕ) (a b out r s : List Wall) (x y : Wall) → Merging n a b out (x ∷ r) (y ∷ s) → ray_order x y ≡ Less → Merging n a b (out ++ x ∷ []) r (y ∷ s)
+step-less : (n : ℕ) (a b out r s : List Wall) (x y : Wall) → Merging n a b out (x ∷ r) (y ∷ s) → ray_order x y ≡ Less → Merging n a b (out ++ x ∷ []) r (y ∷ s)
 step-less n a b out r s x y h e =
     let l = is-less _ _ e in
     take-first n a b out r (y ∷ s) x h (l, before-more x y s h.rests.0.0.1 h.rests.1.0.1 h.rests.1.1 l (second-part out (y ∷ s) h.second).0)
 
-pub step-greater : (n : ℕ) (a b out r s : List Wall) (x y : Wall) → Merging n a b out (x ∷ r) (y ∷ s) → ray_order x y ≡ Greater → Merging n a b (out ++ y ∷ []) (x ∷ r) s
+step-greater : (n : ℕ) (a b out r s : List Wall) (x y : Wall) → Merging n a b out (x ∷ r) (y ∷ s) → ray_order x y ≡ Greater → Merging n a b (out ++ y ∷ []) (x ∷ r) s
 step-greater n a b out r s x y h e =
     let l = (is-greater _ _ e).1 in
     swapped n b a (out ++ y ∷ []) s (x ∷ r) (take-first n b a out s (x ∷ r) y (swapped n a b out (x ∷ r) (y ∷ s) h) (l, before-more y x r h.rests.1.0.1 h.rests.0.0.1 h.rests.0.1 l (second-part out (x ∷ r) h.first).0))
@@ -170,6 +172,11 @@ one-place x y px py e = go (place-total (place_of x) (place_of y) px py) (is-equ
     go (inl l) n = let z = n.0 in absurd (cc)
     go (inr (inl g)) n = let z = n.1 in absurd (cc)
     go (inr (inr q)) n = q
+
+pub step : (n : ℕ) (a b out r s : List Wall) (x y w : Wall) (o : Ordering) → Merging n a b out (x ∷ r) (y ∷ s) → o ≡ ray_order x y → IsFirstRay n o x y w → Merging n a b (out ++ w ∷ []) (first_after o (x ∷ r)) (second_after o (y ∷ s))
+step n a b out r s x y w Less h e f = subst (λ (v : Wall). Merging n a b (out ++ v ∷ []) r (y ∷ s)) (sym f) (step-less n a b out r s x y h (sym e))
+step n a b out r s x y w Greater h e f = subst (λ (v : Wall). Merging n a b (out ++ v ∷ []) (x ∷ r) s) (sym f) (step-greater n a b out r s x y h (sym e))
+step n a b out r s x y w Equal h e f = let p = one-place x y h.rests.0.0.1 h.rests.1.0.1 (sym e) in take-both n a b out r s x y w h (ap (λ q. q.0) p) (ap (λ q. q.1) p) f
 
 -- ---- the end
 

@@ -4,6 +4,7 @@
 --     HasNewTerms n cs w       w has only terms of degree n besides 1, which a correction of cs adds
 --     IsJoinable n r s         rays of one direction with no common key but 1, light enough together
 --     IsJoined n r s w         w is the ray of r with the terms of s as well
+--     IsFirstRay n o r s w     w is the first of r and s, or both joined where they have one place
 --     IsRayOf n p t w          w is the ray from p with 1 and the term t
 --     AreRaysTo n ws           outgoing rays with functions of order n at most, reduced
 --     AreLoads n m ws          none of the loads is above what m has for its direction
@@ -56,6 +57,12 @@ pub record IsJoined (n : ℕ) (r s w : Wall) : Type 0 where
   pub terms : (k : Key) → coef (rest w.function) k ≡ coef (rest r.function) k +ℤ coef (rest s.function) k
   pub load : load n w ≤ load n r + load n s
   pub live : IsTrue (is_live r) → IsTrue (is_live w)
+
+-- w is what comes first of two rays that stand in this order
+abbrev pub IsFirstRay : ℕ → Ordering → Wall → Wall → Wall → Type 0
+IsFirstRay n Less r s w = w ≡ r
+IsFirstRay n Equal r s w = IsJoined n r s w
+IsFirstRay n Greater r s w = w ≡ s
 
 pub record IsRayOf (n : ℕ) (p : Point) (t : Term) (w : Wall) : Type 0 where
   pub kind : w.kind ≡ Outgoing

@@ -8,10 +8,10 @@ ghost use Rattle.scattering.specs.Plane.{Point as PlanePoint, IsDirection, point
 ghost use Rattle.scattering.specs.Correction.{ray_coef, IsAdded, IsMerged, AreMergeable};
 ghost use Rattle.plane_geom.specs.Shown.{point_of};
 ghost use Rattle.trunc_series.specs.Shown.{sum_of};
-ghost use Rattle.scatter_diagram.specs.Shown.{walls_of};
+ghost use Rattle.scatter_diagram.specs.Shown.{wall_of, walls_of};
 ghost use Rattle.scatter_diagram.specs.Listed.{AreOfOrder, AreLines, AreRays};
 ghost use Rattle.ray_merge.specs.Additions.{AreAdded, IsRayTerm, IsAddable, IsTameElement, IsLight, IsLightAlong, corrections_of};
-ghost use Rattle.ray_merge.specs.Rays.{AreRaysTo, AreJoinable, AreLoads, AreLoadsOfBoth, HasNewTerms, mass_along};
+ghost use Rattle.ray_merge.specs.Rays.{ray_order, AreRaysTo, AreJoinable, AreLoads, AreLoadsOfBoth, IsJoinable, IsFirstRay, HasNewTerms, mass_along};
 ghost use Rattle.ray_merge.specs.Answer.{AreLight, AreTame, StayWithin, IsMergedTo, IsStoppedAt};
 
 use crate::additions::added_terms;
@@ -23,6 +23,7 @@ use scatter_diagram::{Diagram, Initial, Stop, StopCause, Wall, cut_walls};
 use std::alloc::{AllocError, Global};
 use std::cmp::Ordering;
 use trunc_series::Key;
+use trunc_series::sorted_terms::Rests;
 use vertex_lie::LieElement;
 
 /// Appends the rays, read at a higher order.
@@ -44,6 +45,32 @@ fn push_raised(
     Ok(())
 }
 
+/// What comes first of two rays that stand so: one of them, or both joined where they have one start and
+/// direction.
+fn first_ray(
+    alloc: Global,
+    order: u32,
+    place: Ordering,
+    x: &Wall,
+    y: &Wall,
+) -> Result<Wall, AllocError>
+    requires order { order ≤ highest_order }
+    requires left { x.now.function.order ≤ order }
+    requires right { y.now.function.order ≤ order }
+    requires place { place ≡ ray_order (wall_of x.now) (wall_of y.now) }
+    requires joinable { place ≡ Ordering.Equal
+        → IsJoinable order (wall_of x.now) (wall_of y.now) }
+    ensures first { IfOk result
+        (λ w. IsFirstRay order place (wall_of x.now) (wall_of y.now) (wall_of w)) }
+    ensures order { IfOk result (λ w. w.function.order ≡ order) }
+{
+    match place {
+        Ordering::Less => raised(alloc, order, x),
+        Ordering::Equal => joined(alloc, order, x, y),
+        Ordering::Greater => raised(alloc, order, y),
+    }
+}
+
 /// Two lists of rays in order as one, where rays of one start and direction are joined.
 fn merged_rays(alloc: Global, order: u32, a: &[Wall], b: &[Wall]) -> Result<Vec<Wall>, AllocError>
     requires order { order ≤ highest_order }
@@ -58,29 +85,14 @@ fn merged_rays(alloc: Global, order: u32, a: &[Wall], b: &[Wall]) -> Result<Vec<
         (λ r. AreLoadsOfBoth order (walls_of a.now) (walls_of b.now) (walls_of r.items)) }
 {
     let mut out = Vec::with_capacity(alloc, a.len() + b.len())?;
-    let mut i = 0;
-    let mut j = 0;
-    'merge: while i < a.len() && j < b.len() {
-        let x = &a[i];
-        let y = &b[j];
-        match compare_places(x, y) {
-            Ordering::Less => {
-                out.push(raised(alloc, order, x)?)?;
-                i += 1;
-            }
-            Ordering::Greater => {
-                out.push(raised(alloc, order, y)?)?;
-                j += 1;
-            }
-            Ordering::Equal => {
-                out.push(joined(alloc, order, x, y)?)?;
-                i += 1;
-                j += 1;
-            }
-        }
+    let mut rests = Rests::new(a, b);
+    while let Some((x, y)) = rests.fronts() {
+        let place = compare_places(x, y);
+        out.push(first_ray(alloc, order, place, x, y)?)?;
+        rests.advance(place);
     }
-    push_raised(alloc, order, &mut out, &a[i..])?;
-    push_raised(alloc, order, &mut out, &b[j..])?;
+    push_raised(alloc, order, &mut out, rests.first)?;
+    push_raised(alloc, order, &mut out, rests.second)?;
     Ok(out)
 }
 
@@ -169,32 +181,6 @@ fn added_rays(
     Ok(out)
 }
 
-/// The initial walls cut to the order, and the rays with the terms that the corrections add.
-fn merged_walls(
-    alloc: Global,
-    initial: &Initial,
-    e: &Diagram,
-    corrections: &[(Point, LieElement)],
-    order: u32,
-) -> Result<(Vec<Wall>, Vec<Wall>), AllocError>
-    requires order { order ≤ highest_order }
-    requires next { e.now.order + 1 ≡ order }
-    requires mergeable { AreMergeable order (corrections_of corrections.now) }
-    requires tame { AreTame order (corrections_of corrections.now) }
-    requires light { AreLight (corrections_of corrections.now) }
-    requires within { StayWithin order (corrections_of corrections.now) e.now.diagram.rays }
-    ensures lines { IfOk result (λ r. AreLines order r.0.items) }
-    ensures rays { IfOk result (λ r. AreRays order r.1.items) }
-    ensures merged { IfOk result
-        (λ r. IsMerged initial.now.lines e.now.diagram (corrections_of corrections.now) order
-        (record { initial = walls_of r.0.items; rays = walls_of r.1.items })) }
-{
-    let lines = cut_walls(alloc, order, initial.lines())?;
-    let added = added_rays(alloc, order, corrections)?;
-    let rays = merged_rays(alloc, order, e.rays(), added.as_slice())?;
-    Ok((lines, rays))
-}
-
 /// The diagram of order `order` from that of the order before, `e`, and the corrections of this order at
 /// points in order: the initial walls cut to it, and the rays of `e` with the corrections' terms. For a
 /// diagram with more than 8192 walls the answer is `TooManyWalls`.
@@ -215,7 +201,9 @@ pub fn merged(
         (IsMergedTo initial.now.lines e.now.diagram (corrections_of corrections.now) order)
         (IsStoppedAt initial.now.lines e.now.diagram (corrections_of corrections.now) order) }
 {
-    let (lines, rays) = merged_walls(alloc, initial, e, corrections, order)?;
+    let lines = cut_walls(alloc, order, initial.lines())?;
+    let added = added_rays(alloc, order, corrections)?;
+    let rays = merged_rays(alloc, order, e.rays(), added.as_slice())?;
     if lines.len() + rays.len() > MOST_WALLS {
         return Err(Stop::At {
             order,

@@ -2,6 +2,14 @@
 #![tactic(auto)]
 
 #[cfg(test)]
-mod cases;
+mod case;
+#[cfg(test)]
+mod completions;
+#[cfg(test)]
+mod inputs;
 #[cfg(test)]
 mod outside;
+#[cfg(test)]
+mod refusals;
+#[cfg(test)]
+mod streams;

@@ -1,16 +1,16 @@
 -- The test of wall functions for worked examples says what it should.
-use Rattle.std.proofs.Common.{◌≡◌, ◌≢◌, ℕ, ◌<◌, ◌≤◌, ◌^◌, ◌*◌, refl, sym, ap, subst, ◌∙◌, Bool, true, false, not, ◌&&◌, ◌||◌, [], ◌∷◌, arith, inl, inr}
+use Rattle.std.proofs.Common.{◌≡◌, ◌≢◌, ℕ, ◌<◌, ◌≤◌, ◌^◌, ◌*◌, refl, sym, ap, subst, Bool, true, false, not, ◌&&◌, ◌||◌, [], ◌∷◌, arith, inl, inr}
 use Rattle.std.specs.Prelude.{ℤ, pos, ◌≤ℤ◌, nat_abs, nat_le, nat_lt, IsTrue, Option, Some, IfSome}
 use Rattle.std.specs.List.{list_all}
 use Rattle.std.proofs.lemmas.Int.{ints}
 use Rattle.scattering.specs.Collections.{In, Every, EveryPair}
-use Rattle.scattering.specs.Series.{Exp, Term, Sum, Key, int_eq, exp_eq, key_eq, key_before, unit, degree, coef, rest, scale, mass_to, IsSeries, IsMultiple}
+use Rattle.scattering.specs.Series.{Exp, Term, Sum, int_eq, exp_eq, key_eq, key_before, unit, degree, coef, rest, scale, mass_to, IsSeries, IsMultiple}
 use Rattle.scattering.proofs.Keys.{int_eq-same, exp_eq-same}
 use Rattle.scattering.proofs.Lists.{and-left, and-right, any-some, Every-implies, all-every}
 use Rattle.plane_theory.proofs.PlacesOnWalls.{zero-in}
 use Rattle.trunc_series.specs.Shown.{Seen, IsTerm, IsSeriesOf}
 use Rattle.trunc_series.proofs.Unique.{series-terms}
-use Rattle.scattering.proofs.KeyOrder.{key_before-irrefl}
+use Rattle.scattering.proofs.DistinctKeys.{HasDistinctKeys, rising-distinct}
 use Rattle.scattering.proofs.Tests.{nat_le-yes}
 use Rattle.plane_geom.specs.declared.Direction.{Direction}
 use Rattle.plane_geom.specs.Shown.{vector_of}
@@ -84,14 +84,7 @@ low-series n d f h = record {
 pub low-terms : (n : ℕ) (d : Exp) (f : Sum) → IsTrue (is_low_function n d f) → Every (IsTerm n) f
 low-terms n d f h = Every-implies (IsLow n d) (IsTerm n) f (λ t l. (l.nonzero, l.small, l.low)) (each-low n d f h)
 
-pub rising-distinct : (f : Sum) → EveryPair (λ (t u : Term). IsTrue (key_before t.0 u.0)) f → EveryPair (λ (t u : Term). t.0 ≢ u.0) f
-rising-distinct [] h = tt
-rising-distinct (t ∷ f) h = (Every-implies (λ (u : Term). IsTrue (key_before t.0 u.0)) (λ (u : Term). t.0 ≢ u.0) f (apart t) h.0, rising-distinct f h.1)
-  where
-    apart : (t u : Term) → key_before t.0 u.0 ≡ true → t.0 ≢ u.0
-    apart t u e q = let i = key_before-irrefl u.0 in let j = ap (λ (k : Key). key_before k u.0) (sym q) ∙ e in absurd (cc)
-
-pub low-distinct : (n : ℕ) (d : Exp) (f : Sum) → IsTrue (is_low_function n d f) → EveryPair (λ (t u : Term). t.0 ≢ u.0) f
+pub low-distinct : (n : ℕ) (d : Exp) (f : Sum) → IsTrue (is_low_function n d f) → HasDistinctKeys f
 low-distinct n d f h = rising-distinct f (rising f (and-left (are_rising f) _ h))
 
 pub low-proper : (d : Direction) (n : ℕ) (f : Sum) → IsTrue (is_low_function n (vector_of d) f) → IsProper d (record { order = n; terms = f })

@@ -3,6 +3,10 @@ pub mod Binomials
 pub mod Cuts
 pub mod Spelling
 pub mod Tokens
+pub mod Words
+pub mod Slots
+pub mod RowShapes
+pub mod AddedRows
 pub mod Lines
 pub mod StageRows
 pub mod KnownTerms

@@ -1,110 +1,78 @@
 -- A line begins with one keyword, so its first failing test is one.
-use Rattle.std.proofs.Common.{inl, inr, ◌≡◌, ◌≢◌, ℕ, List, [], get_or, refl, arith, sym, ◌∙◌, ap, subst, Option, unwrap_or, All, Contains, slice_get, ℤ}
+use Rattle.std.proofs.Common.{inl, inr, ◌≡◌, ◌≢◌, ℕ, List, [], refl, sym, ◌∙◌, ap, subst, Option, unwrap_or, All, drop, ◌∷◌, slice_get, Some}
 use Rattle.scatter_text.specs.declared.fault.TextKind.{TextKind}
 use Rattle.scatter_text.specs.declared.fault.TextKind.TheVariants.{Unfinished, Byte, Shape, Word, Count, Number, Value, Missing}
+use Rattle.scatter_text.specs.declared.grammar.TextForm.{TextForm}
 use Rattle.scatter_text.specs.declared.grammar.Keyword.{Keyword}
-use Rattle.scatter_text.specs.declared.grammar.Keyword.TheVariants as keyword
 use Rattle.scatter_text.specs.declared.grammar.Place.{Place}
-use Rattle.scatter_text.specs.declared.grammar.Row.{Row}
-use Rattle.scatter_text.specs.Grammar.{word_of, words_at, place_after, vars_of, BeginsWith, tokens_of, form, HasForm, AreSpelled, Passes, IsBadLine}
-use Rattle.scatter_text.specs.Reading.{BeginAt, Say, AreBadTokens, IsUnvaluedLine}
+use Rattle.scatter_text.specs.declared.row.Row.{Row}
+use Rattle.scatter_text.specs.Grammar.{word_of, slots_of, place_after, variables_of, BeginWith, tokens_of, HasForm, AreSpelled, Passes, IsBadLine}
+use Rattle.scatter_text.specs.Reading.{Say, AreBadTokens, IsUnvaluedLine}
+use Rattle.scatter_text.proofs.Words.{word_injective}
+use Rattle.scatter_text.proofs.Slots.{form-of_values, spelled-of_values}
 
--- the second bytes of the words tell them apart
-same_second : (j k : Keyword) → get_or (word_of j) 1 0 ≡ get_or (word_of k) 1 0 → j ≡ k
-same_second keyword.Scatter keyword.Scatter e = refl
-same_second keyword.Scatter keyword.Vars e = absurd (omega arith)
-same_second keyword.Scatter keyword.Line e = absurd (omega arith)
-same_second keyword.Scatter keyword.Term e = absurd (omega arith)
-same_second keyword.Scatter keyword.End e = absurd (omega arith)
-same_second keyword.Vars keyword.Scatter e = absurd (omega arith)
-same_second keyword.Vars keyword.Vars e = refl
-same_second keyword.Vars keyword.Line e = absurd (omega arith)
-same_second keyword.Vars keyword.Term e = absurd (omega arith)
-same_second keyword.Vars keyword.End e = absurd (omega arith)
-same_second keyword.Line keyword.Scatter e = absurd (omega arith)
-same_second keyword.Line keyword.Vars e = absurd (omega arith)
-same_second keyword.Line keyword.Line e = refl
-same_second keyword.Line keyword.Term e = absurd (omega arith)
-same_second keyword.Line keyword.End e = absurd (omega arith)
-same_second keyword.Term keyword.Scatter e = absurd (omega arith)
-same_second keyword.Term keyword.Vars e = absurd (omega arith)
-same_second keyword.Term keyword.Line e = absurd (omega arith)
-same_second keyword.Term keyword.Term e = refl
-same_second keyword.Term keyword.End e = absurd (omega arith)
-same_second keyword.End keyword.Scatter e = absurd (omega arith)
-same_second keyword.End keyword.Vars e = absurd (omega arith)
-same_second keyword.End keyword.Line e = absurd (omega arith)
-same_second keyword.End keyword.Term e = absurd (omega arith)
-same_second keyword.End keyword.End e = refl
-
-pub word_injective : (j k : Keyword) → word_of j ≡ word_of k → j ≡ k
-word_injective j k e = same_second j k (ap (λ (word : List ℕ). get_or word 1 0) e)
-
-pub begins_with_one : (before : List Row) (line : List ℕ) (j k : Keyword) → BeginsWith before line j → BeginsWith before line k → j ≡ k
-begins_with_one before line j k g h = word_injective j k (ap (λ (o : Option (List ℕ)). unwrap_or o []) (sym g.first ∙ h.first))
-
-begins_with : (before : List Row) (line : List ℕ) (place : Place) (tokens : List (List ℕ)) (k : Keyword) → place_after before ≡ place → tokens ≡ tokens_of line → BeginAt place tokens k → BeginsWith before line k
-begins_with before line place tokens k at cut h = record {
-  allowed = let P : Place → Type 0 = λ p. Contains (words_at p) k in subst P (sym at) h.allowed;
-  first = ap (λ tokens. slice_get tokens 0) (sym cut) ∙ h.first;
-}
-
-begins_at : (before : List Row) (line : List ℕ) (place : Place) (tokens : List (List ℕ)) (k : Keyword) → place_after before ≡ place → tokens ≡ tokens_of line → BeginsWith before line k → BeginAt place tokens k
-begins_at before line place tokens k at cut h = record {
-  allowed = let P : Place → Type 0 = λ p. Contains (words_at p) k in subst P at h.allowed;
-  first = ap (λ tokens. slice_get tokens 0) cut ∙ h.first;
-}
+begin_with_one : (form : TextForm) (place : Place) (tokens : List (List ℕ)) (j k : Keyword) → BeginWith form place tokens j → BeginWith form place tokens k → j ≡ k
+begin_with_one form place tokens j k g h = word_injective j k (ap (λ (o : Option (List ℕ)). unwrap_or o []) (sym g.first ∙ h.first))
 
 -- a printable line of separate tokens, seen by its tokens
-pub record IsCut (before : List Row) (line : List ℕ) (place : Place) (vars : ℤ) (tokens : List (List ℕ)) : Type 0 where
+pub record IsCut (form : TextForm) (before : List Row) (line : List ℕ) (place : Place) (variables : ℕ) (tokens : List (List ℕ)) : Type 0 where
   pub at : place_after before ≡ place
-  pub with_vars : vars_of before ≡ vars
+  pub with_variables : variables_of before ≡ variables
   pub cut : tokens ≡ tokens_of line
-  pub byte : Passes before line Byte
+  pub byte : Passes form before line Byte
   pub separate : All (λ token. token ≢ []) tokens
 
-shape : (before : List Row) (line : List ℕ) (place : Place) (vars : ℤ) (tokens : List (List ℕ)) → IsCut before line place vars tokens → Passes before line Shape
-shape before line place vars tokens h = let P : List (List ℕ) → Type 0 = λ tokens. All (λ token. token ≢ []) tokens in subst P h.cut h.separate
+module _ (form : TextForm) (before : List Row) (line : List ℕ) (byte : Passes form before line Byte) (shape : Passes form before line Shape) where
+  abbrev here : Place
+  here = place_after before
 
-pub bad_line : (before : List Row) (line : List ℕ) (place : Place) (vars : ℤ) (tokens : List (List ℕ)) (kind : TextKind) → IsCut before line place vars tokens → AreBadTokens place vars tokens kind → IsBadLine before line kind
-bad_line before line place vars tokens Unfinished h bad = absurd bad
-bad_line before line place vars tokens Byte h bad = absurd bad
-bad_line before line place vars tokens Shape h bad = absurd bad
-bad_line before line place vars tokens Value h bad = absurd bad
-bad_line before line place vars tokens Missing h bad = absurd bad
-bad_line before line place vars tokens Word h bad =
-    inr (h.byte, inr (shape before line place vars tokens h, inl ((λ begins. bad begins.0 (begins_at before line place tokens begins.0 h.at h.cut begins.1)), refl)))
-bad_line before line place vars tokens Count h (k, begins, refused) =
-    let starts = begins_with before line place tokens k h.at h.cut begins in
-    inr (h.byte, inr (shape before line place vars tokens h, inr ((k, starts), inl (not starts, refl))))
-  where
-    not : BeginsWith before line k → ¬ Passes before line Count
-    not starts (j, also, fits) =
-        let one : j ≡ k = begins_with_one before line j k also starts in
-        let P : Keyword → ℤ → List (List ℕ) → Type 0 = λ k v tokens. HasForm (form k v) tokens in
-        refused (subst (λ z. z) (λ i. P (one i) (h.with_vars i) (sym h.cut i)) fits)
-bad_line before line place vars tokens Number h (k, begins, fits, refused) =
-    let starts = begins_with before line place tokens k h.at h.cut begins in
-    let P : ℤ → List (List ℕ) → Type 0 = λ v tokens. HasForm (form k v) tokens in
-    let has_form = subst (λ z. z) (λ i. P (sym h.with_vars i) (h.cut i)) fits in
-    inr (h.byte, inr (shape before line place vars tokens h, inr ((k, starts), inr ((k, starts, has_form), inl (not starts, refl)))))
-  where
-    not : BeginsWith before line k → ¬ Passes before line Number
-    not starts (j, also, spelled) =
-        let one : j ≡ k = begins_with_one before line j k also starts in
-        let P : Keyword → ℤ → List (List ℕ) → Type 0 = λ k v tokens. AreSpelled (form k v) tokens in
-        refused (subst (λ z. z) (λ i. P (one i) (h.with_vars i) (sym h.cut i)) spelled)
+  abbrev count : ℕ
+  count = variables_of before
 
-pub unvalued_line : (before : List Row) (line : List ℕ) (place : Place) (vars : ℤ) (tokens : List (List ℕ)) (r : Row) → IsCut before line place vars tokens → Say place vars tokens r → IsUnvaluedLine before line r
-unvalued_line before line place vars tokens r h say =
-    let starts = begins_with before line place tokens say.keyword h.at h.cut say.begins in
-    record {
-      byte = h.byte;
-      shape = shape before line place vars tokens h;
-      word = (say.keyword, starts);
-      count = (say.keyword, starts, let P : ℤ → List (List ℕ) → Type 0 = λ v tokens. HasForm (form say.keyword v) tokens in subst (λ z. z) (λ i. P (sym h.with_vars i) (h.cut i)) say.has_form);
-      number = (say.keyword, starts, let P : ℤ → List (List ℕ) → Type 0 = λ v tokens. AreSpelled (form say.keyword v) tokens in subst (λ z. z) (λ i. P (sym h.with_vars i) (h.cut i)) say.says.spelled);
-      allowed = let P : Keyword → Type 0 = λ k. Contains (words_at (place_after before)) k in subst P (sym say.says.keyword) starts.allowed;
-      text = sym h.cut ∙ say.says.text;
-      short = say.says.short;
-    }
+  abbrev cut_line : List (List ℕ)
+  cut_line = tokens_of line
+
+  bad-tokens : (kind : TextKind) → AreBadTokens form here count cut_line kind → IsBadLine form before line kind
+  bad-tokens Unfinished bad = absurd bad
+  bad-tokens Byte bad = absurd bad
+  bad-tokens Shape bad = absurd bad
+  bad-tokens Value bad = absurd bad
+  bad-tokens Missing bad = absurd bad
+  bad-tokens Word none = inr (byte, inr (shape, inl ((λ begins. none begins.0 begins.1), refl)))
+  bad-tokens Count (k, begins, refused) = inr (byte, inr (shape, inr ((k, begins), inl (not, refl))))
+    where
+      not : ¬ Passes form before line Count
+      not (j, also, fits) = let P : Keyword → Type 0 = λ k. HasForm count (slots_of k) (drop 1 cut_line) in refused (subst P (begin_with_one form here cut_line j k also begins) fits)
+  bad-tokens Number (k, begins, fits, refused) = inr (byte, inr (shape, inr ((k, begins), inr ((k, begins, fits), inl (not, refl)))))
+    where
+      not : ¬ Passes form before line Number
+      not (j, also, spelled) = let P : Keyword → Type 0 = λ k. AreSpelled count (slots_of k) (drop 1 cut_line) in refused (subst P (begin_with_one form here cut_line j k also begins) spelled)
+
+  unvalued : (r : Row) → Say form here count cut_line r → IsUnvaluedLine form before line r
+  unvalued r say = record {
+    byte = byte;
+    shape = shape;
+    word = (r.keyword, say.begins);
+    count = (r.keyword, say.begins, form-of_values count (slots_of r.keyword) (drop 1 cut_line) r.values say.says);
+    number = (r.keyword, say.begins, spelled-of_values count (slots_of r.keyword) (drop 1 cut_line) r.values say.says);
+    allowed = say.begins.allowed;
+    text = whole cut_line say.begins.first ∙ ap (λ (rest : List (List ℕ)). word_of r.keyword ∷ rest) say.says.text;
+    fills = record { slots = say.says.fill; spellable = say.says.spellable };
+  }
+    where
+      whole : (tokens : List (List ℕ)) → slice_get tokens 0 ≡ Some (word_of r.keyword) → tokens ≡ word_of r.keyword ∷ drop 1 tokens
+      whole [] e = absurd (cc)
+      whole (first ∷ rest) e = let same : first ≡ word_of r.keyword = cc in ap (λ (word : List ℕ). word ∷ rest) same
+
+shape : (form : TextForm) (before : List Row) (line : List ℕ) (place : Place) (variables : ℕ) (tokens : List (List ℕ)) → IsCut form before line place variables tokens → Passes form before line Shape
+shape form before line place variables tokens h = let P : List (List ℕ) → Type 0 = λ tokens. All (λ token. token ≢ []) tokens in subst P h.cut h.separate
+
+pub bad_line : (form : TextForm) (before : List Row) (line : List ℕ) (place : Place) (variables : ℕ) (tokens : List (List ℕ)) (kind : TextKind) → IsCut form before line place variables tokens → AreBadTokens form place variables tokens kind → IsBadLine form before line kind
+bad_line form before line place variables tokens kind h bad =
+    let P : Place → ℕ → List (List ℕ) → Type 0 = λ place variables tokens. AreBadTokens form place variables tokens kind in
+    bad-tokens form before line h.byte (shape form before line place variables tokens h) kind (subst (λ z. z) (λ i. P (sym h.at i) (sym h.with_variables i) (h.cut i)) bad)
+
+pub unvalued_line : (form : TextForm) (before : List Row) (line : List ℕ) (place : Place) (variables : ℕ) (tokens : List (List ℕ)) (r : Row) → IsCut form before line place variables tokens → Say form place variables tokens r → IsUnvaluedLine form before line r
+unvalued_line form before line place variables tokens r h say =
+    let P : Place → ℕ → List (List ℕ) → Type 0 = λ place variables tokens. Say form place variables tokens r in
+    unvalued form before line h.byte (shape form before line place variables tokens h) r (subst (λ z. z) (λ i. P (sym h.at i) (sym h.with_variables i) (h.cut i)) say)

@@ -1,60 +1,41 @@
 -- The rules on values hold of the file that good lines say.
-use Rattle.std.proofs.Common.{◌≡◌, ◌≤ℤ◌, ℕ, zero, suc, List, [], ◌∷◌, length, map, fold, arith, sym, ◌∙◌, ap, subst, AllPairs, ℤ, pos, nat_abs, Option, unwrap_or, slice_get}
-use Rattle.std.specs.Fmt.{signed_decimal}
+use Rattle.std.proofs.Common.{◌≡◌, ◌≤ℤ◌, ℕ, zero, suc, List, [], ◌∷◌, length, fold, arith, sym, subst, AllPairs, ℤ, pos, nat_abs}
 use Rattle.std.specs.List.{AllByRecursion}
-use Rattle.std.proofs.lemmas.List.{length-map}
 use Rattle.std.proofs.lemmas.List.Elements.{All-from_recursion, recursion_from_All}
 use Rattle.scatter_text.specs.declared.file.TermRow.{TermRow}
 use Rattle.scatter_text.specs.declared.file.LineRow.{LineRow}
-use Rattle.scatter_text.specs.declared.fault.TextKind.TheVariants.{Count}
-use Rattle.scatter_text.specs.declared.grammar.Keyword.{Keyword}
-use Rattle.scatter_text.specs.declared.grammar.Keyword.TheVariants as keyword
-use Rattle.scatter_text.specs.declared.grammar.Row.{Row}
-use Rattle.scatter_text.specs.declared.grammar.Row.TheVariants as row
-use Rattle.scatter_text.specs.Values.{IsTermRow, AreAlike, IsLine, AreLineRows}
-use Rattle.scatter_text.specs.Grammar.{form, HasForm, word_of, row_tokens, IsShortRow, HasValues, vars_of, terms_before, Passes, IsGoodLine, AreGood, rows_onto}
+use Rattle.scatter_text.specs.declared.file.Coordinate.{Coordinate}
+use Rattle.scatter_text.specs.declared.grammar.TextForm.{TextForm}
+use Rattle.scatter_text.specs.declared.grammar.TextForm.TheVariants.{InitialLines}
+use Rattle.scatter_text.specs.declared.row.Row.{Row}
+use Rattle.scatter_text.specs.Values.{IsTermRow, IsCoordinate, AreAlike, IsLine, AreLineRows}
+use Rattle.scatter_text.specs.Grammar.{line_row, term_row, end_row, IsSpellable, FillsSlots, HasValues, vars_of, variables_of, terms_before, AreGood, rows_onto}
 use Rattle.scatter_text.specs.Stages.{head_rows}
-use Rattle.scatter_text.proofs.Lines.{word_injective}
-use Rattle.scatter_text.proofs.Tokens.{numbers_form}
 use Rattle.scatter_text.proofs.StageRows.{vars_of-line}
 
--- a term has a power for each variable
-abbrev pub HasCount : List Row → Row → Type 0
-HasCount before (row.Scatter version) = Unit {0}
-HasCount before (row.Vars vars) = Unit {0}
-HasCount before (row.Line dx dy x y) = Unit {0}
-HasCount before (row.Term term) = length term.powers ≡ nat_abs (vars_of before)
-HasCount before row.End = Unit {0}
-
 pub record FitsOn (before : List Row) (r : Row) : Type 0 where
-  pub short : IsShortRow r
-  pub values : HasValues before r
-  pub count : HasCount before r
+  pub fills : FillsSlots (variables_of before) r
+  pub values : HasValues before r.keyword r.values
 
 -- each row fits those before it
 abbrev pub AreFit : List Row → Type 0
 AreFit [] = Unit {0}
 AreFit (r ∷ before) = FitsOn before r × AreFit before
 
-count_of_good : (before : List Row) (line : List ℕ) (r : Row) → IsGoodLine before line r → HasCount before r
-count_of_good before line (row.Scatter version) good = tt
-count_of_good before line (row.Vars vars) good = tt
-count_of_good before line (row.Line dx dy x y) good = tt
-count_of_good before line row.End good = tt
-count_of_good before line (row.Term term) good = at good.passes.1.1.1.0
-  where
-    at : Passes before line Count → length term.powers ≡ nat_abs (vars_of before)
-    at (k, begins, fits) =
-        let word : word_of k ≡ word_of keyword.Term = ap (λ (o : Option (List ℕ)). unwrap_or o []) (sym begins.first ∙ ap (λ tokens. slice_get tokens 0) good.says.text) in
-        let is : k ≡ keyword.Term = word_injective k keyword.Term word in
-        let P : Keyword → List (List ℕ) → Type 0 = λ k tokens. HasForm (form k (vars_of before)) tokens in
-        let there : HasForm (form keyword.Term (vars_of before)) (row_tokens (row.Term term)) = subst (λ z. z) (λ i. P (is i) (good.says.text i)) fits in
-        sym (length-map term.powers signed_decimal) ∙ (numbers_form (nat_abs (vars_of before)) (map signed_decimal term.powers)).0 there.1
+pub fit_from_good : (form : TextForm) (before : List Row) (lines : List (List ℕ)) (rows : List Row) → AreFit before → AreGood form before lines rows → AreFit rows
+fit_from_good form before [] rows fit e = subst AreFit (sym e) fit
+fit_from_good form before (line ∷ lines) rows fit (r, good, more) = fit_from_good form (r ∷ before) lines rows (record { fills = good.says.fills; values = good.says.values }, fit) more
 
-pub fit_from_good : (before : List Row) (lines : List (List ℕ)) (rows : List Row) → AreFit before → AreGood before lines rows → AreFit rows
-fit_from_good before [] rows fit e = subst AreFit (sym e) fit
-fit_from_good before (line ∷ lines) rows fit (r, good, more) =
-    fit_from_good (r ∷ before) lines rows (record { short = good.says.short; values = good.says.values; count = count_of_good before line r good }, fit) more
+-- what its row says of the spelling of a term, and of a line
+term_spelled : (variables : ℕ) (t : TermRow) → FillsSlots variables (term_row t) → length t.powers ≡ variables
+term_spelled variables t fills = (recursion_from_All (IsSpellable variables) (term_row t).values fills.spellable).1.1.0.0
+
+record LineSpelled (p q : Coordinate) : Type 0 where
+  x : IsCoordinate p
+  y : IsCoordinate q
+
+line_spelled : (variables : ℕ) (dx dy : ℤ) (x y : Coordinate) → FillsSlots variables (line_row dx dy x y) → LineSpelled x y
+line_spelled variables dx dy x y fills = let each = recursion_from_All (IsSpellable variables) (line_row dx dy x y).values fills.spellable in record { x = each.1.1.1.0.valid; y = each.1.1.1.1.0.valid }
 
 abbrev Differ : TermRow → TermRow → Type 0
 Differ s t = ¬ AreAlike s t
@@ -76,14 +57,14 @@ record TermsFit (vars : ℤ) (earlier ts : List TermRow) : Type 0 where
   apart : AllByRecursion (λ t. AllByRecursion (λ e. Differ e t) earlier) ts
   pairs : ArePairs ts
 
-terms_fit : (rows : List Row) (ts : List TermRow) → AreFit (fold (λ rows term. row.Term term ∷ rows) rows ts) → TermsFit (vars_of rows) (terms_before rows) ts × AreFit rows
+terms_fit : (rows : List Row) (ts : List TermRow) → AreFit (fold (λ rows term. term_row term ∷ rows) rows ts) → TermsFit (vars_of rows) (terms_before rows) ts × AreFit rows
 terms_fit rows [] fit = (record { each = tt; counts = tt; apart = tt; pairs = tt }, fit)
 terms_fit rows (t ∷ ts) fit =
-    let more = terms_fit (row.Term t ∷ rows) ts fit in
+    let more = terms_fit (term_row t ∷ rows) ts fit in
     let here = more.1.0 in (
       record {
         each = (here.values.0, more.0.each);
-        counts = (here.count, more.0.counts);
+        counts = (term_spelled (variables_of rows) t here.fills, more.0.counts);
         apart = (recursion_from_All (λ e. Differ e t) (terms_before rows) here.values.1, later ts more.0.apart);
         pairs = (first ts more.0.apart, more.0.pairs);
       },
@@ -100,12 +81,13 @@ terms_fit rows (t ∷ ts) fit =
 
 line_fit : (before : List Row) (l : LineRow) → AreFit (rows_onto before l) → IsLine (vars_of before) l × AreFit before
 line_fit before l fit =
-    let parts = terms_fit (row.Line l.dx l.dy l.x l.y ∷ before) l.terms fit in
-    let here = parts.1.0 in (
+    let parts = terms_fit (line_row l.dx l.dy l.x l.y ∷ before) l.terms fit in
+    let here = parts.1.0 in
+    let spelled = line_spelled (variables_of before) l.dx l.dy l.x l.y here.fills in (
       record {
         primitive = here.values;
-        x = here.short.2.valid;
-        y = here.short.3.valid;
+        x = spelled.x;
+        y = spelled.y;
         terms = record {
           each = All-from_recursion IsTermRow l.terms parts.0.each;
           variables = All-from_recursion (λ t. length t.powers ≡ nat_abs (vars_of before)) l.terms parts.0.counts;
@@ -127,8 +109,8 @@ pub record IsFile (vars : ℤ) (lines : List LineRow) : Type 0 where
   pub variables : pos 1 ≤ℤ vars
   pub valid : AreLineRows vars lines
 
-pub file_from_good : (texts : List (List ℕ)) (vars : ℤ) (lines : List LineRow) → AreGood [] texts (row.End ∷ fold rows_onto (head_rows vars) lines) → IsFile vars lines
+pub file_from_good : (texts : List (List ℕ)) (vars : ℤ) (lines : List LineRow) → AreGood InitialLines [] texts (end_row ∷ fold rows_onto (head_rows vars) lines) → IsFile vars lines
 file_from_good texts vars lines good =
-    let fit = fit_from_good [] texts (row.End ∷ fold rows_onto (head_rows vars) lines) tt good in
+    let fit = fit_from_good InitialLines [] texts (end_row ∷ fold rows_onto (head_rows vars) lines) tt good in
     let parts = lines_fit (head_rows vars) lines fit.1 in
     record { variables = parts.1.0.values; valid = All-from_recursion (IsLine vars) lines parts.0 }

@@ -1,8 +1,13 @@
-// The words of the format and what a line says.
+// The table of the format: its words, what stands after each, where it is allowed, and which place follows.
 ghost use Rattle.std.specs.Prelude.{◌≡◌, MatchOption, Contains};
-ghost use Rattle.scatter_text.specs.Grammar.{word_of, words_at, BeginsNowhere};
+ghost use Rattle.scatter_text.specs.Grammar.{word_of, slots_of, words_at, text_of_fixed, token_count, BeginsNowhere};
 
-use crate::file::{Coordinate, TermRow};
+/// A kind of text.
+#[derive(Clone, Copy, Debug, PartialEq, Eq)]
+pub enum TextForm {
+    /// The initial lines of a diagram.
+    InitialLines,
+}
 
 /// The word that a line begins with.
 #[derive(Clone, Copy, Debug, PartialEq, Eq)]
@@ -12,6 +17,32 @@ pub enum Keyword {
     Line,
     Term,
     End,
+}
+
+/// A fixed word within a line.
+#[derive(Clone, Copy, Debug, PartialEq, Eq)]
+pub enum FixedWord {
+    At,
+}
+
+/// What may stand in a line after its keyword.
+#[derive(Clone, Copy, Debug, PartialEq, Eq)]
+pub enum Slot {
+    Fixed(FixedWord),
+    Number,
+    Coordinate,
+    /// As many numbers as there are variables.
+    Powers,
+}
+
+/// Where a line stands in a text.
+#[derive(Clone, Copy, Debug, PartialEq, Eq)]
+pub enum Place {
+    Start,
+    Version,
+    Lines,
+    Terms,
+    After,
 }
 
 impl Keyword {
@@ -27,38 +58,72 @@ impl Keyword {
             Keyword::End => b"end",
         }
     }
-}
 
-/// Where a line stands in a text.
-#[derive(Clone, Copy, Debug, PartialEq, Eq)]
-pub enum Place {
-    Start,
-    Version,
-    Lines,
-    Terms,
-    After,
-}
-
-impl Place {
-    /// The words that a line here may begin with.
-    pub fn words(self) -> &'static [Keyword]
-        ensures { result.now ≡ words_at self }
+    /// What stands after the word.
+    pub fn slots(self) -> &'static [Slot]
+        ensures { result.now ≡ slots_of self }
     {
         match self {
-            Place::Start => &[Keyword::Scatter],
-            Place::Version => &[Keyword::Vars],
-            Place::Lines => &[Keyword::Line, Keyword::End],
-            Place::Terms => &[Keyword::Term, Keyword::Line, Keyword::End],
-            Place::After => &[],
+            Keyword::Scatter => &[Slot::Number],
+            Keyword::Vars => &[Slot::Number],
+            Keyword::Line => &[
+                Slot::Number,
+                Slot::Number,
+                Slot::Fixed(FixedWord::At),
+                Slot::Coordinate,
+                Slot::Coordinate,
+            ],
+            Keyword::Term => &[Slot::Number, Slot::Number, Slot::Powers],
+            Keyword::End => &[],
+        }
+    }
+}
+
+impl FixedWord {
+    /// The word as it is spelled.
+    pub fn text(self) -> &'static [u8]
+        ensures { result.now ≡ text_of_fixed self }
+    {
+        match self {
+            FixedWord::At => b"at",
+        }
+    }
+}
+
+impl Slot {
+    /// The number of its tokens.
+    pub fn token_count(self, variables: usize) -> usize
+        ensures { result ≡ token_count variables self }
+    {
+        match self {
+            Slot::Fixed(_) | Slot::Number | Slot::Coordinate => 1,
+            Slot::Powers => variables,
+        }
+    }
+}
+
+impl TextForm {
+    /// The words that a line at this place may begin with.
+    pub fn words(self, place: Place) -> &'static [Keyword]
+        ensures { result.now ≡ words_at self place }
+    {
+        match self {
+            TextForm::InitialLines => match place {
+                Place::Start => &[Keyword::Scatter],
+                Place::Version => &[Keyword::Vars],
+                Place::Lines => &[Keyword::Line, Keyword::End],
+                Place::Terms => &[Keyword::Term, Keyword::Line, Keyword::End],
+                Place::After => &[],
+            },
         }
     }
 
     /// The allowed word that a token spells.
-    pub fn keyword(self, token: &[u8]) -> Option<Keyword>
-        ensures { MatchOption result (BeginsNowhere self token.now)
-            (λ k. Contains (words_at self) k × (token.now ≡ word_of k)) }
+    pub fn keyword(self, place: Place, token: &[u8]) -> Option<Keyword>
+        ensures { MatchOption result (BeginsNowhere self place token.now)
+            (λ k. Contains (words_at self place) k × (token.now ≡ word_of k)) }
     {
-        let words = self.words();
+        let words = self.words(place);
         for k in words {
             if token == k.word() {
                 return Some(*k);
@@ -66,19 +131,4 @@ impl Place {
         }
         None
     }
-}
-
-/// What a line says.
-#[derive(Drop)]
-pub enum Row {
-    Scatter(i64),
-    Vars(i64),
-    Line {
-        dx: i64,
-        dy: i64,
-        x: Coordinate,
-        y: Coordinate,
-    },
-    Term(TermRow),
-    End,
 }

@@ -14,6 +14,7 @@ mod number;
 mod open_line;
 mod printing;
 mod reading;
+mod row;
 mod rows;
 mod stage;
 

@@ -1,12 +1,12 @@
 // One line of a text: its tests in their order, and the row that it says.
-ghost use Rattle.std.specs.Prelude.{◌≡◌, ◌≢◌, ◌≤◌, [], IsTrue, ◌↔◌, All, Some, ◌<◌, map, length, slice_get, IfOk, MatchOption};
-ghost use Rattle.scatter_text.specs.Grammar.{word_of, form, HasForm, AreSpelled, IsNumberText, tokens_of};
-ghost use Rattle.scatter_text.specs.Reading.{Say, AreBadTokens, IsRowOf, IfBad, IsUnvaluedAt, IsBadAt, AreNumbersOf, AreLineTexts, IsLineRowOf, AreTermTexts, IsTermRowOf};
+ghost use Rattle.std.specs.Prelude.{◌≡◌, ◌≢◌, ◌≤◌, [], IsTrue, ◌↔◌, All, ◌<◌, ◌+◌, map, take, drop, length, IfOk, MatchOption};
+ghost use Rattle.scatter_text.specs.Grammar.{HasForm, AreSpelled, IsInPlace, IsSpelled, IsNumberText, tokens_of};
+ghost use Rattle.scatter_text.specs.Reading.{Say, AreBadTokens, AreOfSlot, IsValueOf, AreValuesOf, IfBad, IsUnvaluedAt, IsBadAt, AreNumbersOf};
 
 use crate::fault::TextKind;
-use crate::file::TermRow;
-use crate::grammar::{Keyword, Place, Row};
+use crate::grammar::{Place, Slot, TextForm};
 use crate::number::{coordinate, number};
+use crate::row::{Row, RowValue};
 use crate::rows::Rows;
 use std::alloc::{AllocError, AllocFailed, Global};
 
@@ -40,9 +40,15 @@ impl From<AllocError> for LineFault {
 }
 
 /// What a line says at a place, but for the rules on values.
-pub fn row_at(alloc: Global, place: Place, vars: i64, line: &[u8]) -> Result<Row, LineFault>
-    ensures ok { IfOk result (IsUnvaluedAt place vars line.now) }
-    ensures bad { IfBad result (IsBadAt place vars line.now) }
+pub fn row_at(
+    alloc: Global,
+    form: TextForm,
+    place: Place,
+    variables: usize,
+    line: &[u8],
+) -> Result<Row, LineFault>
+    ensures ok { IfOk result (IsUnvaluedAt form place variables line.now) }
+    ensures bad { IfBad result (IsBadAt form place variables line.now) }
 {
     if !is_printable(line) {
         return Err(LineFault::Bad(TextKind::Byte));
@@ -51,22 +57,30 @@ pub fn row_at(alloc: Global, place: Place, vars: i64, line: &[u8]) -> Result<Row
     if !are_separate(&tokens) {
         return Err(LineFault::Bad(TextKind::Shape));
     }
-    row_from(alloc, place, vars, &tokens)
+    row_from(alloc, form, place, variables, &tokens)
 }
 
 /// What the tokens of a line say at a place, but for the rules on values.
-fn row_from(alloc: Global, place: Place, vars: i64, tokens: &[&[u8]]) -> Result<Row, LineFault>
+fn row_from(
+    alloc: Global,
+    form: TextForm,
+    place: Place,
+    variables: usize,
+    tokens: &[&[u8]],
+) -> Result<Row, LineFault>
     requires { 0 < length tokens.now }
-    ensures ok { IfOk result (Say place vars (map (λ t. t.now) tokens.now)) }
-    ensures bad { IfBad result (AreBadTokens place vars (map (λ t. t.now) tokens.now)) }
+    ensures ok { IfOk result (Say form place variables (map (λ t. t.now) tokens.now)) }
+    ensures bad { IfBad result (AreBadTokens form place variables (map (λ t. t.now) tokens.now)) }
 {
-    match place.keyword(tokens[0]) {
+    match form.keyword(place, tokens[0]) {
         Some(keyword) => {
-            if !has_form(keyword, vars, tokens) {
+            let slots = keyword.slots();
+            let rest = &tokens[1..];
+            if !has_form(variables, slots, rest) {
                 return Err(LineFault::Bad(TextKind::Count));
             }
-            match row_of(alloc, keyword, vars, tokens)? {
-                Some(row) => Ok(row),
+            match values_of(alloc, variables, slots, rest)? {
+                Some(values) => Ok(Row { keyword, values }),
                 None => Err(LineFault::Bad(TextKind::Number)),
             }
         }
@@ -99,69 +113,106 @@ fn are_separate(tokens: &[&[u8]]) -> bool
     true
 }
 
-/// Whether a line has as many tokens as its keyword wants, and `at` in its place.
-fn has_form(keyword: Keyword, vars: i64, tokens: &[&[u8]]) -> bool
-    requires { slice_get (map (λ t. t.now) tokens.now) 0 ≡ Some (word_of keyword) }
-    ensures { IsTrue result ↔ HasForm (form keyword vars) (map (λ t. t.now) tokens.now) }
+/// Whether there are as many tokens as slots want, and each fixed word is in its place.
+fn has_form(variables: usize, slots: &[Slot], tokens: &[&[u8]]) -> bool
+    ensures { IsTrue result ↔ HasForm variables slots.now (map (λ t. t.now) tokens.now) }
 {
-    match keyword {
-        Keyword::Scatter | Keyword::Vars => tokens.len() == 2,
-        Keyword::Line => tokens.len() == 6 && tokens[3] == b"at".as_slice(),
-        Keyword::Term => tokens.len() as u64 == 3 + vars.unsigned_abs(),
-        Keyword::End => tokens.len() == 1,
-    }
-}
-
-/// What a line of the right form says, if its numbers and coordinates are spelled so.
-fn row_of(
-    alloc: Global,
-    keyword: Keyword,
-    vars: i64,
-    tokens: &[&[u8]],
-) -> Result<Option<Row>, AllocError>
-    requires { HasForm (form keyword vars) (map (λ t. t.now) tokens.now) }
-    ensures { IfOk result (λ row. MatchOption row
-        (¬ AreSpelled (form keyword vars) (map (λ t. t.now) tokens.now))
-        (IsRowOf keyword vars (map (λ t. t.now) tokens.now))) }
-{
-    match keyword {
-        Keyword::Scatter => match number(tokens[1]) {
-            Some(version) => Ok(Some(Row::Scatter(version))),
-            None => Ok(None),
-        },
-        Keyword::Vars => match number(tokens[1]) {
-            Some(vars) => Ok(Some(Row::Vars(vars))),
-            None => Ok(None),
-        },
-        Keyword::Line => Ok(line_of(tokens[1], tokens[2], tokens[4], tokens[5])),
-        Keyword::Term => term_of(alloc, tokens[1], tokens[2], &tokens[3..]),
-        Keyword::End => Ok(Some(Row::End)),
-    }
-}
-
-fn line_of(dx: &[u8], dy: &[u8], x: &[u8], y: &[u8]) -> Option<Row>
-    ensures { MatchOption result (¬ AreLineTexts dx.now dy.now x.now y.now)
-        (IsLineRowOf dx.now dy.now x.now y.now) }
-{
-    let Some(dx) = number(dx) else { return None };
-    let Some(dy) = number(dy) else { return None };
-    let Some(x) = coordinate(x) else { return None };
-    let Some(y) = coordinate(y) else { return None };
-    Some(Row::Line { dx, dy, x, y })
-}
-
-fn term_of(alloc: Global, c: &[u8], j: &[u8], powers: &[&[u8]]) -> Result<Option<Row>, AllocError>
-    ensures { IfOk result (λ row. MatchOption row
-        (¬ AreTermTexts c.now j.now (map (λ t. t.now) powers.now))
-        (IsTermRowOf c.now j.now (map (λ t. t.now) powers.now))) }
-{
-    let powers = numbers(alloc, powers)?;
-    match (number(c), number(j), powers) {
-        (Some(c), Some(j), Some(powers)) => {
-            let powers = Rows::from_vec(powers);
-            Ok(Some(Row::Term(TermRow { c, j, powers })))
+    let mut start = 0;
+    for slot in slots {
+        let count = slot.token_count(variables);
+        if tokens.len() - start < count {
+            return false;
         }
-        _ => Ok(None),
+        if !are_in_place(*slot, part(tokens, start, count)) {
+            return false;
+        }
+        start += count;
+    }
+    start == tokens.len()
+}
+
+/// So many tokens from a place on.
+fn part<'a, 'b>(tokens: &'a [&'b [u8]], start: usize, count: usize) -> &'a [&'b [u8]]
+    requires { start + count ≤ length tokens.now }
+    ensures { result.now ≡ take count (drop start tokens.now) }
+{
+    &tokens[start..start + count]
+}
+
+/// Whether the tokens of a slot are its fixed word, if it has one.
+fn are_in_place(slot: Slot, tokens: &[&[u8]]) -> bool
+    ensures { IsTrue result ↔ All (IsInPlace slot) (map (λ t. t.now) tokens.now) }
+{
+    for token in tokens {
+        if !is_in_place(slot, token) {
+            return false;
+        }
+    }
+    true
+}
+
+fn is_in_place(slot: Slot, token: &[u8]) -> bool
+    ensures { IsTrue result ↔ IsInPlace slot token.now }
+{
+    match slot {
+        Slot::Fixed(word) => token == word.text(),
+        Slot::Number | Slot::Coordinate | Slot::Powers => true,
+    }
+}
+
+/// What the tokens of slots say, if each is spelled as its slot asks.
+fn values_of(
+    alloc: Global,
+    variables: usize,
+    slots: &[Slot],
+    tokens: &[&[u8]],
+) -> Result<Option<Rows<RowValue>>, AllocError>
+    requires { HasForm variables slots.now (map (λ t. t.now) tokens.now) }
+    ensures { IfOk result (λ values. MatchOption values
+        (¬ AreSpelled variables slots.now (map (λ t. t.now) tokens.now))
+        (AreValuesOf variables slots.now (map (λ t. t.now) tokens.now))) }
+{
+    let mut values = Vec::with_capacity(alloc, slots.len())?;
+    let mut start = 0;
+    for slot in slots {
+        let count = slot.token_count(variables);
+        match value_of(alloc, variables, *slot, part(tokens, start, count))? {
+            Some(value) => {
+                values.push(value)?;
+            }
+            None => return Ok(None),
+        }
+        start += count;
+    }
+    Ok(Some(Rows::from_vec(values)))
+}
+
+/// What the tokens of one slot say, if each is spelled as the slot asks.
+fn value_of(
+    alloc: Global,
+    variables: usize,
+    slot: Slot,
+    tokens: &[&[u8]],
+) -> Result<Option<RowValue>, AllocError>
+    requires { AreOfSlot variables slot (map (λ t. t.now) tokens.now) }
+    ensures { IfOk result (λ value. MatchOption value
+        (¬ All (IsSpelled slot) (map (λ t. t.now) tokens.now))
+        (IsValueOf variables slot (map (λ t. t.now) tokens.now))) }
+{
+    match slot {
+        Slot::Fixed(word) => Ok(Some(RowValue::Fixed(word))),
+        Slot::Number => match number(tokens[0]) {
+            Some(n) => Ok(Some(RowValue::Number(n))),
+            None => Ok(None),
+        },
+        Slot::Coordinate => match coordinate(tokens[0]) {
+            Some(c) => Ok(Some(RowValue::Coordinate(c))),
+            None => Ok(None),
+        },
+        Slot::Powers => match numbers(alloc, tokens)? {
+            Some(powers) => Ok(Some(RowValue::Powers(Rows::from_vec(powers)))),
+            None => Ok(None),
+        },
     }
 }
 

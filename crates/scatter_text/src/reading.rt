@@ -5,10 +5,12 @@ ghost use Rattle.scatter_text.specs.Grammar.{IsTextOf, IsTextFault, file_text, f
 ghost use Rattle.scatter_text.specs.Reading.{IfBad};
 ghost use Rattle.scatter_text.specs.Stages.{rows_of, Follows, AreRead};
 ghost use Rattle.scatter_text.specs.declared.fault.TextKind.{TextKind};
+ghost use Rattle.scatter_text.specs.declared.grammar.TextForm.TheVariants.{InitialLines};
 ghost use Rattle.scatter_text.specs.declared.file.TextFile.{TextFile};
 
 use crate::fault::{TextFault, TextKind};
 use crate::file::TextFile;
+use crate::grammar::TextForm;
 use crate::line::{LineFault, row_at};
 use crate::number::find_byte;
 use crate::rows::Rows;
@@ -61,9 +63,10 @@ fn at(fault: LineFault, line: u32) -> TextFault
 /// The stage after one line more.
 fn next(alloc: Global, stage: Stage, line: &[u8]) -> Result<Stage, LineFault>
     ensures ok { IfOk result (λ more. Follows (rows_of stage) line.now (rows_of more)) }
-    ensures bad { IfBad result (IsBadLine (rows_of stage) line.now) }
+    ensures bad { IfBad result (IsBadLine InitialLines (rows_of stage) line.now) }
 {
-    match row_at(alloc, stage.place(), stage.vars(), line) {
+    let form = TextForm::InitialLines;
+    match row_at(alloc, form, stage.place(), stage.variables(), line) {
         Ok(row) => {
             let allowed = stage.allows(alloc, &row)?;
             if !allowed {
@@ -83,7 +86,7 @@ fn finish(stage: Stage, rest: &[u8], line: u32) -> Result<TextFile, TextFault>
     requires { AreRead (rows_of stage) }
     ensures ok { IfOk result (λ file. (rest.now ≡ []) × (file_rows file ≡ rows_of stage)) }
     ensures bad { (at : ℕ) (kind : TextKind) → result ≡ Err (TextFault.Bad at kind)
-        → (at ≡ line) × IsFaultAfter (rows_of stage) (rest.now ∷ []) kind }
+        → (at ≡ line) × IsFaultAfter InitialLines (rows_of stage) (rest.now ∷ []) kind }
 {
     if !rest.is_empty() {
         let kind = TextKind::Unfinished;

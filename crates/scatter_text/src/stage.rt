@@ -1,12 +1,14 @@
 // How far a text is read: the rows so far, as the file that they begin.
 ghost use Rattle.std.specs.Prelude.{◌≡◌, [], ◌∷◌, ◌++◌, IsTrue, ◌↔◌, IfOk, Contains, All, nat_abs, pos, ◌≤ℤ◌};
-ghost use Rattle.scatter_text.specs.Grammar.{place_after, vars_of, keyword_of, words_at, HasValues, IsNewTerm, IsTermAfter};
+ghost use Rattle.scatter_text.specs.Grammar.{place_after, variables_of, words_at, FillsSlots, HasValues, IsNewTerm, IsTermAfter, line_said};
 ghost use Rattle.scatter_text.specs.Stages.{rows_of};
+ghost use Rattle.scatter_text.specs.declared.grammar.TextForm.TheVariants.{InitialLines};
 ghost use Rattle.scatter_text.specs.Values.{AreCoprime, IsTermRow};
 
-use crate::file::{Coordinate, LineRow, TermRow};
-use crate::grammar::{Place, Row};
+use crate::file::{LineRow, TermRow};
+use crate::grammar::{Keyword, Place};
 use crate::open_line::OpenLine;
+use crate::row::Row;
 use frac_128::gcd;
 use std::alloc::{AllocError, Global};
 
@@ -47,27 +49,31 @@ impl Stage {
     }
 
     /// The number of variables, or 0 before it is known.
-    pub fn vars(&self) -> i64
-        ensures { vars_of (rows_of self.now) ≡ result }
+    pub fn variables(&self) -> usize
+        ensures { variables_of (rows_of self.now) ≡ result }
     {
         match self {
             Stage::Start | Stage::Version => 0,
-            Stage::Head { vars } => *vars,
-            Stage::Body { vars, .. } => *vars,
-            Stage::Whole { vars, .. } => *vars,
+            Stage::Head { vars } => vars.unsigned_abs() as usize,
+            Stage::Body { vars, .. } => vars.unsigned_abs() as usize,
+            Stage::Whole { vars, .. } => vars.unsigned_abs() as usize,
         }
     }
 
     /// Whether the rules on values hold of a row that comes next.
     pub fn allows(&self, alloc: Global, row: &Row) -> Result<bool, AllocError>
-        ensures { IfOk result (λ b. IsTrue b ↔ HasValues (rows_of self.now) row.now) }
+        ensures { IfOk result (λ b. IsTrue b
+            ↔ HasValues (rows_of self.now) row.now.keyword row.now.values) }
     {
-        match row {
-            Row::Scatter(version) => Ok(*version == 1),
-            Row::Vars(vars) => Ok(*vars >= 1),
-            Row::Line { dx, dy, .. } => Ok(is_primitive(*dx, *dy)),
-            Row::Term(term) => self.allows_term(alloc, term),
-            Row::End => Ok(true),
+        match row.keyword {
+            Keyword::Scatter => Ok(row.number(0) == 1),
+            Keyword::Vars => Ok(row.number(0) >= 1),
+            Keyword::Line => Ok(is_primitive(row.number(0), row.number(1))),
+            Keyword::Term => {
+                let term = row.term(alloc)?;
+                self.allows_term(alloc, &term)
+            }
+            Keyword::End => Ok(true),
         }
     }
 
@@ -94,47 +100,55 @@ impl Stage {
 
     /// The stage with one row more, which its place and the rules on values allow.
     pub fn with(self, alloc: Global, row: Row) -> Result<Stage, AllocError>
-        requires allowed { Contains (words_at (place_after (rows_of self))) (keyword_of row) }
-        requires values { HasValues (rows_of self) row }
+        requires allowed { Contains
+            (words_at InitialLines (place_after (rows_of self))) row.keyword }
+        requires fills { FillsSlots (variables_of (rows_of self)) row }
+        requires values { HasValues (rows_of self) row.keyword row.values }
         ensures { IfOk result (λ next. rows_of next ≡ row ∷ rows_of self) }
     {
         match self {
             Stage::Start => Ok(Stage::Version),
-            Stage::Version => match row {
-                Row::Vars(vars) => Ok(Stage::Head { vars }),
-                _ => unreachable!(),
-            },
-            Stage::Head { vars } => match row {
-                Row::Line { dx, dy, x, y } => Ok(Stage::Body {
+            Stage::Version => Ok(Stage::Head {
+                vars: row.number(0),
+            }),
+            Stage::Head { vars } => match row.keyword {
+                Keyword::Line => Ok(Stage::Body {
                     vars,
                     lines: Vec::new(alloc),
-                    last: OpenLine::new(alloc, dx, dy, x, y),
+                    last: opened(alloc, &row),
                 }),
-                Row::End => Ok(Stage::Whole {
+                _ => Ok(Stage::Whole {
                     vars,
                     lines: Vec::new(alloc),
                 }),
-                _ => unreachable!(),
             },
-            Stage::Body { vars, lines, last } => match row {
-                Row::Line { dx, dy, x, y } => {
+            Stage::Body { vars, lines, last } => match row.keyword {
+                Keyword::Line => {
                     let lines = with_line(lines, last.row)?;
-                    let last = OpenLine::new(alloc, dx, dy, x, y);
+                    let last = opened(alloc, &row);
                     Ok(Stage::Body { vars, lines, last })
                 }
-                Row::Term(term) => {
-                    let last = last.with(alloc, term)?;
+                Keyword::Term => {
+                    let last = last.with(alloc, row.term(alloc)?)?;
                     Ok(Stage::Body { vars, lines, last })
                 }
-                Row::End => {
+                _ => {
                     let lines = with_line(lines, last.row)?;
                     Ok(Stage::Whole { vars, lines })
                 }
-                _ => unreachable!(),
             },
             Stage::Whole { .. } => unreachable!(),
         }
     }
+}
+
+/// The line that a row says, without terms.
+fn opened(alloc: Global, row: &Row) -> OpenLine
+    ensures { result.row ≡ line_said row.now.values }
+{
+    let x = row.coordinate(3);
+    let y = row.coordinate(4);
+    OpenLine::new(alloc, row.number(0), row.number(1), x, y)
 }
 
 /// The lines with one more at the end.

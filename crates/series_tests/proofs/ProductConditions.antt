@@ -1,7 +1,6 @@
 -- The conditions of the product, by computing.
-use Rattle.std.proofs.Common.{ℕ, ◌≤◌, ◌^◌, ◌*◌, refl, arith, subst, sym, ◌≡◌}
+use Rattle.std.proofs.Common.{ℕ, ◌≤◌, ◌^◌, refl, subst, sym, ◌≡◌}
 use Rattle.std.specs.Prelude.{nat_abs, nat_le, ◌&&◌, Bool}
-use Rattle.std.specs.List.{list_all}
 use Rattle.scattering.specs.Series.{Term, Sum, mul, absolute, mass_to}
 use Rattle.scattering.proofs.Lists.{and-left, and-right, all-every}
 use Rattle.scattering.proofs.Tests.{nat_le-yes}

@@ -1,4 +1,5 @@
-//! Tests of fractions, of points and directions, of series and majorants, and of walls and diagrams.
+//! Tests of fractions, of points and directions, of series, majorants and sums under construction, and of
+//! walls and diagrams.
 #![tactic(auto)]
 
 #[cfg(test)]
@@ -8,6 +9,8 @@ mod diagrams;
 #[cfg(test)]
 mod fractions;
 #[cfg(test)]
+mod lists;
+#[cfg(test)]
 mod majorants;
 #[cfg(test)]
 mod plane;
@@ -15,5 +18,7 @@ mod plane;
 mod samples;
 #[cfg(test)]
 mod series;
+#[cfg(test)]
+mod sums;
 #[cfg(test)]
 mod walls;

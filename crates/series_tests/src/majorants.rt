@@ -1,6 +1,6 @@
 // Majorants, worked by hand at order 2, over 1 and t1*x.
 
-use crate::samples::{line, majorant};
+use crate::samples::{line, line_list, majorant};
 use sample_walls::monomials::{ONE, X, XX};
 use std::alloc::{AllocError, Global};
 use std::test::Fail;
@@ -21,6 +21,12 @@ fn copies(alloc: Global) -> Result<bool, AllocError> {
     Ok(bounds(&copy, &[(ONE, 1), (X, 1)]) && copy.order() == 2)
 }
 
+fn from_sorted(alloc: Global) -> Result<bool, AllocError> {
+    let terms = line_list(alloc)?;
+    let m = Majorant::from_sorted(alloc, 2, terms);
+    Ok(bounds(&m, &[(ONE, 1), (X, 1)]) && m.order() == 2 && m.mass() == 2)
+}
+
 // 2^127 - 1 at t1*x
 fn high(alloc: Global) -> Result<Majorant, AllocError> {
     let series = Series::from_terms(alloc, 2, &[(X, i128::MAX)])?;
@@ -37,6 +43,7 @@ fn majorants_saturate(rt: HostRuntime) -> Result<(), Fail> {
     let alloc = rt.alloc();
     assert!(rt; doubled(alloc)?);
     assert!(rt; copies(alloc)?);
+    assert!(rt; from_sorted(alloc)?);
     assert!(rt; saturated(alloc)?);
     Ok(())
 }

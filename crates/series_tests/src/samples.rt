@@ -29,6 +29,13 @@ pub fn line(alloc: Global, c: i128) -> Result<Series, AllocError>
     Series::from_terms(alloc, 2, &[(ONE, 1), (X, c)])
 }
 
+// The terms of 1 + t1*x.
+pub fn line_list(alloc: Global) -> Result<Vec<(Key, i128)>, AllocError>
+    ensures { IfOk result (λ r. sum_of r.items ≡ line_terms (pos 1)) }
+{
+    Ok(vec![in alloc; (ONE, 1), (X, 1)]?)
+}
+
 // t1*x, of order 2
 pub fn single(alloc: Global) -> Result<Series, AllocError>
     ensures order { IfOk result (λ s. s.order ≡ 2) }

@@ -1,13 +1,10 @@
 // Series, worked by hand at order 2, over 1 and t1*x.
 
-use crate::samples::{line, single};
+use crate::samples::{line, line_list, single};
 use sample_walls::monomials::{ONE, X, XX, XY, Y};
 use std::alloc::{AllocError, Global};
 use std::cmp::Ordering;
 use std::test::Fail;
-use trunc_series::sorted_terms::{
-    absolutes, collected, level, low_terms, one_term, without_constant,
-};
 use trunc_series::{Key, Series, compare, is_constant, times};
 
 #[test]
@@ -58,6 +55,12 @@ fn copies(alloc: Global) -> Result<bool, AllocError> {
     Ok(s.same(&s.copy()?) && !s.same(&Series::one(alloc, 2)?))
 }
 
+fn from_sorted(alloc: Global) -> Result<bool, AllocError> {
+    let terms = line_list(alloc)?;
+    let s = Series::from_sorted(alloc, 2, terms);
+    Ok(has(&s, &[(ONE, 1), (X, 1)]) && s.order() == 2)
+}
+
 #[test]
 fn series_are_made_and_cut(rt: HostRuntime) -> Result<(), Fail> {
     let alloc = rt.alloc();
@@ -66,6 +69,7 @@ fn series_are_made_and_cut(rt: HostRuntime) -> Result<(), Fail> {
     assert!(rt; coefficients(alloc)?);
     assert!(rt; cut(alloc)?);
     assert!(rt; copies(alloc)?);
+    assert!(rt; from_sorted(alloc)?);
     Ok(())
 }
 
@@ -102,46 +106,5 @@ fn products_and_powers(rt: HostRuntime) -> Result<(), Fail> {
     assert!(rt; product(alloc)?);
     assert!(rt; square(alloc)?);
     assert!(rt; inverse(alloc)?);
-    Ok(())
-}
-
-fn like_terms(alloc: Global) -> Result<bool, AllocError> {
-    let terms = collected(alloc, 2, &[(X, 2), (ONE, 1), (X, -1)])?;
-    Ok(terms.as_slice() == [(ONE, 1), (X, 1)].as_slice())
-}
-
-fn low(alloc: Global) -> Result<bool, AllocError> {
-    let terms = low_terms(alloc, 1, &[(ONE, 1), (X, 2), (XX, 3)])?;
-    Ok(terms.as_slice() == [(ONE, 1), (X, 2)].as_slice())
-}
-
-fn others(alloc: Global) -> Result<bool, AllocError> {
-    let terms = without_constant(alloc, &[(ONE, 1), (X, 2)])?;
-    Ok(terms.as_slice() == [(X, 2)].as_slice())
-}
-
-fn absolute(alloc: Global) -> Result<bool, AllocError> {
-    let terms = absolutes(alloc, &[(ONE, 1), (X, -2)])?;
-    Ok(terms.as_slice() == [(ONE, 1), (X, 2)].as_slice())
-}
-
-fn of_degree(alloc: Global) -> Result<bool, AllocError> {
-    let terms = level(alloc, 1, &[(ONE, 1), (X, 2), (XX, 3)])?;
-    Ok(terms.as_slice() == [(X, 2)].as_slice())
-}
-
-fn unit(alloc: Global) -> Result<bool, AllocError> {
-    Ok(one_term(alloc)?.as_slice() == [(ONE, 1)].as_slice())
-}
-
-#[test]
-fn lists_of_terms(rt: HostRuntime) -> Result<(), Fail> {
-    let alloc = rt.alloc();
-    assert!(rt; like_terms(alloc)?);
-    assert!(rt; low(alloc)?);
-    assert!(rt; others(alloc)?);
-    assert!(rt; absolute(alloc)?);
-    assert!(rt; of_degree(alloc)?);
-    assert!(rt; unit(alloc)?);
     Ok(())
 }

@@ -1,6 +1,7 @@
 pub mod Kept
 pub mod Coefficients
 pub mod Merging
+pub mod Fronts
 pub mod Terms
 pub mod KeyOrder
 pub mod Exact

@@ -1,7 +1,7 @@
 -- The steps of the program's merge, over lists of its terms.
 use Rattle.std.proofs.Common.{◌≡◌, ℕ, ◌+◌, ◌<◌, ◌≤◌, refl, sym, subst, ap, ◌∙◌, Bool, true, false, cond, List, [], ◌∷◌, ◌++◌, length, get_or, take, drop, ◌-◌, add-one, drop-cons, arith, zero, suc, append_assoc, ◌⊎◌, inl, inr}
 use Rattle.std.specs.Prelude.{ℤ, pos, ◌+ℤ◌, ◌==◌, not, IsTrue}
-use Rattle.std.proofs.lemmas.List.{drop_all, take-append-drop, take_rest, append-nil}
+use Rattle.std.proofs.lemmas.List.{take-append-drop, append-nil}
 use Rattle.std.proofs.Math.Decide.{dec_le}
 use Rattle.std.specs.Ordering.{ordering_index}
 use Rattle.std.specs.declared.cmp.Ordering.{Ordering}
@@ -12,7 +12,8 @@ use Rattle.trunc_series.specs.declared.key.Key.{Key as CodeKey}
 use Rattle.trunc_series.specs.declared.arithmetic.Arithmetic.{Arithmetic}
 use Rattle.trunc_series.specs.Shown.{key_of, term_of, sum_of, IsTerm, IsValid}
 use Rattle.trunc_series.specs.Arithmetic.{kept}
-use Rattle.trunc_series.specs.Reduced.{unless_zero, key_order}
+use Rattle.trunc_series.specs.Fronts.{IsFirst, first_after, second_after}
+use Rattle.trunc_series.specs.Reduced.{unless_zero, first_terms, key_order}
 use Rattle.scattering.proofs.KeyOrder.{key_before-trans}
 use Rattle.scattering.proofs.Lists.{Every-from_In, Every-at as of-every, Every-implies}
 use Rattle.trunc_series.proofs.Merging.{merge, merge-nil}
@@ -74,35 +75,23 @@ sum_of-unless_zero out t r = go (int_eq t.1 (pos 0))
 
 -- ---- the steps of the loop
 
-module _ (rule : Arithmetic) (out a b : List (CodeKey × ℤ)) (i j : ℕ) (h : i < length a) (k : j < length b) where
-  before : Sum
-  before = merge rule (sum_of (drop i a)) (sum_of (drop j b))
+module _ (rule : Arithmetic) (out a b : List (CodeKey × ℤ)) where
+  one-step : (t u : CodeKey × ℤ) (o : Ordering) → o ≡ key_order (key_of t.0) (key_of u.0)
+      → sum_of (out ++ first_terms rule o t u) ++ merge rule (sum_of (first_after o (t ∷ a))) (sum_of (second_after o (u ∷ b))) ≡ sum_of out ++ merge rule (sum_of (t ∷ a)) (sum_of (u ∷ b))
+  one-step t u Less e = sum_of-push out t _ ∙ ap (λ r. sum_of out ++ r) (sym (merge-less rule (term_of t) (term_of u) (sum_of a) (sum_of b) (sym e)))
+  one-step t u Greater e = sum_of-push out u _ ∙ ap (λ r. sum_of out ++ r) (sym (merge-greater rule (term_of t) (term_of u) (sum_of a) (sum_of b) (sym e)))
+  one-step t u Equal e =
+      sum_of-unless_zero out (t.0, kept rule (t.1 +ℤ u.1)) _
+      ∙ ap (λ r. sum_of out ++ r) (sym (merge-equal rule (term_of t) (term_of u) (sum_of a) (sum_of b) (sym e) (kept rule (t.1 +ℤ u.1)) refl))
 
-  pub step-less : key_order (key_of (at a i).0) (key_of (at b j).0) ≡ Less → sum_of (out ++ at a i ∷ []) ++ merge rule (sum_of (drop (i + 1) a)) (sum_of (drop j b)) ≡ sum_of out ++ merge rule (sum_of (drop i a)) (sum_of (drop j b))
-  step-less e =
-      sum_of-push out (at a i) _
-      ∙ ap (λ r. sum_of out ++ r) (ap (λ g. term_of (at a i) ∷ merge rule (sum_of (drop (i + 1) a)) g) (sum_of-drop b j k)
-      ∙ sym (merge-less rule (term_of (at a i)) (term_of (at b j)) _ _ e)
-      ∙ rw (sum_of-drop a i h, sum_of-drop b j k) refl)
+-- the first of two terms is taken
+pub merge-step : (rule : Arithmetic) (out a b : List (CodeKey × ℤ)) (t u : CodeKey × ℤ) (o : Ordering) → IsFirst t a → IsFirst u b → o ≡ key_order (key_of t.0) (key_of u.0)
+    → sum_of (out ++ first_terms rule o t u) ++ merge rule (sum_of (first_after o a)) (sum_of (second_after o b)) ≡ sum_of out ++ merge rule (sum_of a) (sum_of b)
+merge-step rule out a b t u o f g e = rw (f.1, g.1) (one-step rule out f.0 g.0 t u o e)
 
-  pub step-greater : key_order (key_of (at a i).0) (key_of (at b j).0) ≡ Greater → sum_of (out ++ at b j ∷ []) ++ merge rule (sum_of (drop i a)) (sum_of (drop (j + 1) b)) ≡ sum_of out ++ merge rule (sum_of (drop i a)) (sum_of (drop j b))
-  step-greater e =
-      sum_of-push out (at b j) _
-      ∙ ap (λ r. sum_of out ++ r) (ap (λ f. term_of (at b j) ∷ merge rule f (sum_of (drop (j + 1) b))) (sum_of-drop a i h)
-      ∙ sym (merge-greater rule (term_of (at a i)) (term_of (at b j)) _ _ e)
-      ∙ rw (sum_of-drop a i h, sum_of-drop b j k) refl)
-
-  module _ (e : key_order (key_of (at a i).0) (key_of (at b j).0) ≡ Equal) (c : ℤ) (s : c ≡ kept rule ((at a i).1 +ℤ (at b j).1)) where
-    both : merge rule (sum_of (drop i a)) (sum_of (drop j b)) ≡ cond (int_eq c (pos 0)) (merge rule (sum_of (drop (i + 1) a)) (sum_of (drop (j + 1) b))) ((key_of (at a i).0, c) ∷ merge rule (sum_of (drop (i + 1) a)) (sum_of (drop (j + 1) b)))
-    both = rw (sum_of-drop a i h, sum_of-drop b j k) (merge-equal rule (term_of (at a i)) (term_of (at b j)) _ _ e c s)
-
-    pub step-equal : sum_of (out ++ unless_zero ((at a i).0, c)) ++ merge rule (sum_of (drop (i + 1) a)) (sum_of (drop (j + 1) b)) ≡ sum_of out ++ merge rule (sum_of (drop i a)) (sum_of (drop j b))
-    step-equal = sum_of-unless_zero out ((at a i).0, c) _ ∙ ap (λ r. sum_of out ++ r) (sym both)
-
-pub merge-ended : (rule : Arithmetic) (out a b : List (CodeKey × ℤ)) (i j : ℕ) → (length a ≤ i) ⊎ (length b ≤ j)
-    → sum_of ((out ++ take (length a - i) (drop i a)) ++ take (length b - j) (drop j b)) ≡ sum_of out ++ merge rule (sum_of (drop i a)) (sum_of (drop j b))
-merge-ended rule out a b i j (inl h) = rw (take_rest a i, take_rest b j) (rw (drop_all i a h) (rw (append-nil out) (sum_of-append out (drop j b))))
-merge-ended rule out a b i j (inr h) = rw (take_rest a i, take_rest b j) (rw (drop_all j b h) (rw (append-nil (out ++ drop i a), merge-nil rule (sum_of (drop i a))) (sum_of-append out (drop i a))))
+pub merge-ended : (rule : Arithmetic) (out a b : List (CodeKey × ℤ)) → (a ≡ []) ⊎ (b ≡ []) → sum_of ((out ++ a) ++ b) ≡ sum_of out ++ merge rule (sum_of a) (sum_of b)
+merge-ended rule out a b (inl e) = rw e (rw (append-nil out) (sum_of-append out b))
+merge-ended rule out a b (inr e) = rw e (rw (append-nil (out ++ a), merge-nil rule (sum_of a)) (sum_of-append out a))
 
 pub sum_of-halves : (a : List (CodeKey × ℤ)) (n : ℕ) → sum_of a ≡ sum_of (take n a) ++ sum_of (drop n a)
 sum_of-halves a n = ap sum_of (sym (take-append-drop n a)) ∙ sum_of-append (take n a) (drop n a)

@@ -4,3 +4,4 @@ pub mod Reduced
 pub mod Capped
 pub mod Worked
 pub mod Laws
+pub mod Fronts

@@ -1,5 +1,5 @@
 -- A sorted list of terms that stands for a sum, as the crate's own functions hand it on.
-use Rattle.std.specs.Prelude.{◌≡◌, ℕ, ◌+◌, ◌*◌, ◌<◌, ◌≤◌, ◌^◌, cond, pos, nat_abs, IsTrue, ℤ, List, [], ◌∷◌, ◌++◌, map, flat_map}
+use Rattle.std.specs.Prelude.{◌≡◌, ℕ, ◌+◌, ◌*◌, ◌<◌, ◌≤◌, ◌^◌, cond, pos, nat_abs, IsTrue, ℤ, ◌+ℤ◌, List, [], ◌∷◌, ◌++◌, map, flat_map}
 use Rattle.std.specs.declared.cmp.Ordering.{Ordering}
 use Rattle.std.specs.declared.cmp.Ordering.TheVariants.{Less, Equal, Greater}
 use Rattle.limits.specs.Limits.{largest_exponent}
@@ -25,6 +25,12 @@ pub record IsKeptAs (rule : Arithmetic) (n : ℕ) (f g : Sum) : Type 0 where
 -- a term, or none where its coefficient is 0
 abbrev pub unless_zero : CodeKey × ℤ → List (CodeKey × ℤ)
 unless_zero t = cond (int_eq t.1 (pos 0)) [] (t ∷ [])
+
+-- what comes first of two terms whose keys stand in this order
+abbrev pub first_terms : Arithmetic → Ordering → CodeKey × ℤ → CodeKey × ℤ → List (CodeKey × ℤ)
+first_terms rule Less t u = t ∷ []
+first_terms rule Equal t u = unless_zero (t.0, kept rule (t.1 +ℤ u.1))
+first_terms rule Greater t u = u ∷ []
 
 -- an exponent that can be added to another in an i32
 abbrev pub IsNearKey : Key → Type 0

@@ -10,6 +10,7 @@ mod majorant;
 mod merge;
 mod power;
 mod product;
+mod rests;
 mod series;
 mod shared;
 pub mod sorted_terms;

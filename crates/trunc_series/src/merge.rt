@@ -5,11 +5,12 @@ ghost use Rattle.scattering.specs.Collections.{Every, EveryPair};
 ghost use Rattle.scattering.specs.Series.{key_before, degree};
 ghost use Rattle.trunc_series.specs.Shown.{key_of, term_of, sum_of, IsTerm};
 ghost use Rattle.trunc_series.specs.Arithmetic.{IsKeepable};
-ghost use Rattle.trunc_series.specs.Reduced.{AddsUp, AreCollected, absolute_sum, unless_zero};
+ghost use Rattle.trunc_series.specs.Reduced.{AddsUp, AreCollected, absolute_sum, first_terms, key_order, unless_zero};
 
 use crate::Key;
 use crate::arithmetic::{Arithmetic, absolute, sum};
 use crate::key::compare;
+use crate::rests::Rests;
 use std::alloc::{AllocError, Global};
 use std::cmp::Ordering;
 
@@ -21,6 +22,28 @@ pub fn push_nonzero(out: &mut Vec<(Key, i128)>, key: Key, c: i128) -> Result<(),
         out.push((key, c))?;
     }
     Ok(())
+}
+
+/// Appends the first of two terms, or their sum where they have one key, and tells how their keys stand.
+fn push_first(
+    rule: Arithmetic,
+    out: &mut Vec<(Key, i128)>,
+    x: &(Key, i128),
+    y: &(Key, i128),
+) -> Result<Ordering, AllocError>
+    requires x { IsKeepable rule x.now.1 }
+    requires y { IsKeepable rule y.now.1 }
+    ensures order { IfOk result (λ o. o ≡ key_order (key_of x.now.0) (key_of y.now.0)) }
+    ensures pushed { IfOk result
+        (λ o. out.new.items ≡ out.old.items ++ first_terms rule o x.now y.now) }
+{
+    let order = compare(&x.0, &y.0);
+    match order {
+        Ordering::Less => out.push(*x)?,
+        Ordering::Greater => out.push(*y)?,
+        Ordering::Equal => push_nonzero(out, x.0, sum(rule, &x.1, &y.1))?,
+    }
+    Ok(order)
 }
 
 /// The terms of two sorted lists as one.
@@ -35,30 +58,13 @@ pub fn merged(
     ensures { IfOk result (λ r. AddsUp rule a.now b.now r.items) }
 {
     let mut out = Vec::with_capacity(alloc, a.len() + b.len())?;
-    let mut i = 0;
-    let mut j = 0;
-    'merge: while i < a.len() && j < b.len() {
-        let x = &a[i];
-        let y = &b[j];
-        match compare(&x.0, &y.0) {
-            Ordering::Less => {
-                out.push(*x)?;
-                i += 1;
-            }
-            Ordering::Greater => {
-                out.push(*y)?;
-                j += 1;
-            }
-            Ordering::Equal => {
-                let c = sum(rule, &x.1, &y.1);
-                push_nonzero(&mut out, x.0, c)?;
-                i += 1;
-                j += 1;
-            }
-        }
+    let mut rests = Rests::new(a, b);
+    while let Some((x, y)) = rests.fronts() {
+        let order = push_first(rule, &mut out, x, y)?;
+        rests.advance(order);
     }
-    out.extend_from_slice(&a[i..])?;
-    out.extend_from_slice(&b[j..])?;
+    out.extend_from_slice(rests.first)?;
+    out.extend_from_slice(rests.second)?;
     Ok(out)
 }
 

@@ -1,76 +1,59 @@
-use Rattle.std.proofs.Common.{◌≡◌, ◌<◌, ◌≤◌, sym, ◌∙◌, ◌-◌, ◌++◌, length, take, drop, arith, inl, inr, ◌⊎◌}
-use Rattle.std.proofs.lemmas.List.{take_rest}
+use Rattle.std.proofs.Common.{◌≡◌, ◌≤◌, ◌++◌, sym, ◌∙◌}
 use Rattle.scatter_diagram.specs.Shown.{walls_of}
+use Rattle.trunc_series.proofs.Fronts.{some-first, first-of, first-has, second-has, rests-shorter}
 use Rattle.ray_merge.proofs.Steps.{Merged}
-use Rattle.ray_merge.proofs.RayLists.{order-push, begun, after-less, after-greater, after-equal, one-start, one-direction, joinable-at, all-merged, merged-are-rays}
+use Rattle.ray_merge.proofs.RayLists.{order-push, begun, taken, joinable-first, joinable-rests, all-merged, merged-are-rays}
 use Rattle.ray_merge.proofs.merge.merged_rays.Goals as goal
-use Rattle.ray_merge.proofs.merge.merged_rays.Goals.{In_ok-push_raised-2, then-merge-test+else-j-b, else-merge-test}
+use Rattle.ray_merge.proofs.merge.merged_rays.Goals.{In_ok-push_raised-2}
 
-pub merge-init : goal.merge-init
-merge-init c = record {
-  in_a = omega arith;
-  in_b = omega arith;
+pub loop-x-init : goal.loop-x-init
+loop-x-init c = record {
   order = rw c.in_ok-out.ensures.items tt;
-  merging = rw c.in_ok-out.ensures.items (begun c.args.order c.args.a.now c.args.b.now c.requires.left c.requires.right);
+  merging = rw (c.in_ok-out.ensures.items, c.new-rests.ensures.first, c.new-rests.ensures.second) (begun c.args.order c.args.a.now c.args.b.now c.requires.left c.requires.right);
+  first = rw c.new-rests.ensures.first c.requires.left.order;
+  second = rw c.new-rests.ensures.second c.requires.right.order;
+  joinable = rw (c.new-rests.ensures.first, c.new-rests.ensures.second) c.requires.joinable;
 }
 
-pub merge-preserved-in-Less : goal.merge-preserved-in-Less
-merge-preserved-in-Less c =
-    let h : c.merge.i < length c.args.a.now = omega arith in
-    let k : c.merge.j < length c.args.b.now = omega arith in
+pub first_ray-requires-clause-left : goal.first_ray-requires-clause-left
+first_ray-requires-clause-left c = first-of (λ w. w.function.order ≤ c.args.order) c.in-Some.x.now c.loop-x.rests.first.now c.in-Some.ensures.first c.loop-x.invariant.first
+
+pub first_ray-requires-clause-right : goal.first_ray-requires-clause-right
+first_ray-requires-clause-right c = first-of (λ w. w.function.order ≤ c.args.order) c.in-Some.y.now c.loop-x.rests.second.now c.in-Some.ensures.second c.loop-x.invariant.second
+
+pub first_ray-requires-clause-joinable : goal.first_ray-requires-clause-joinable
+first_ray-requires-clause-joinable c = λ e.
+    joinable-first c.args.order c.loop-x.rests.first.now c.loop-x.rests.second.now c.in-Some.x.now c.in-Some.y.now c.in-Some.ensures.first c.in-Some.ensures.second c.loop-x.invariant.joinable (sym c.compare_places-place.ensures ∙ e)
+
+pub advance-requires-clause-first : goal.advance-requires-clause-first
+advance-requires-clause-first c = some-first c.in-Some.x.now c.loop-x.rests.first.now c.in-Some.ensures.first
+
+pub advance-requires-clause-second : goal.advance-requires-clause-second
+advance-requires-clause-second c = some-first c.in-Some.y.now c.loop-x.rests.second.now c.in-Some.ensures.second
+
+pub loop-x-preserved : goal.loop-x-preserved
+loop-x-preserved c =
+    let o = c.compare_places-place.result in
     record {
-      in_a = omega arith;
-      in_b = omega arith;
-      order = rw c.in_ok-push-in-Less.ensures.items (order-push c.args.order c.merge.out.items _ c.merge.invariant.order c.in_ok-raised-in-Less.ensures.order);
-      merging = after-less c.args.order c.args.a.now c.args.b.now c.merge.out.items _ c.merge.i c.merge.j c.index-a-i.result c.index-b-j.result _ h k c.index-a-i.is c.index-b-j.is c.in_ok-push-in-Less.ensures.items c.merge.invariant.merging
-          c.in_ok-raised-in-Less.ensures.wall (sym c.compare_places.ensures ∙ c.in-Less.is);
+      order = rw c.in_ok-push.ensures.items (order-push c.args.order c.loop-x.out.items _ c.loop-x.invariant.order c.in_ok-first_ray.ensures.order);
+      merging = rw (c.in_ok-push.ensures.items, c.advance.ensures.first, c.advance.ensures.second)
+          (taken c.args.order c.args.a.now c.args.b.now c.loop-x.out.items c.loop-x.rests.first.now c.loop-x.rests.second.now c.in-Some.x.now c.in-Some.y.now _ o c.in-Some.ensures.first c.in-Some.ensures.second c.loop-x.invariant.merging c.compare_places-place.ensures c.in_ok-first_ray.ensures.first);
+      first = rw c.advance.ensures.first (first-has (λ w. w.function.order ≤ c.args.order) o c.loop-x.rests.first.now c.loop-x.invariant.first);
+      second = rw c.advance.ensures.second (second-has (λ w. w.function.order ≤ c.args.order) o c.loop-x.rests.second.now c.loop-x.invariant.second);
+      joinable = rw (c.advance.ensures.first, c.advance.ensures.second) (joinable-rests c.args.order o c.loop-x.rests.first.now c.loop-x.rests.second.now c.loop-x.invariant.joinable);
     }
 
-pub merge-preserved-in-Greater : goal.merge-preserved-in-Greater
-merge-preserved-in-Greater c =
-    let h : c.merge.i < length c.args.a.now = omega arith in
-    let k : c.merge.j < length c.args.b.now = omega arith in
-    record {
-      in_a = omega arith;
-      in_b = omega arith;
-      order = rw c.in_ok-push-in-Greater.ensures.items (order-push c.args.order c.merge.out.items _ c.merge.invariant.order c.in_ok-raised-in-Greater.ensures.order);
-      merging = after-greater c.args.order c.args.a.now c.args.b.now c.merge.out.items _ c.merge.i c.merge.j c.index-a-i.result c.index-b-j.result _ h k c.index-a-i.is c.index-b-j.is c.in_ok-push-in-Greater.ensures.items c.merge.invariant.merging
-          c.in_ok-raised-in-Greater.ensures.wall (sym c.compare_places.ensures ∙ c.in-Greater.is);
-    }
-
-pub joined-requires-clause-dir : goal.joined-requires-clause-dir
-joined-requires-clause-dir c = one-direction c.args.order c.args.a.now c.args.b.now c.index-a-i.result c.index-b-j.result (sym c.compare_places.ensures ∙ c.in-Equal.is)
-
-pub joined-requires-clause-joinable : goal.joined-requires-clause-joinable
-joined-requires-clause-joinable c =
-    let h : c.merge.i < length c.args.a.now = omega arith in
-    let k : c.merge.j < length c.args.b.now = omega arith in
-    joinable-at c.args.order c.args.a.now c.args.b.now c.merge.i c.merge.j c.index-a-i.result c.index-b-j.result h k c.index-a-i.is c.index-b-j.is c.requires.joinable (sym c.compare_places.ensures ∙ c.in-Equal.is)
-
-pub merge-preserved : goal.merge-preserved
-merge-preserved c =
-    let h : c.merge.i < length c.args.a.now = omega arith in
-    let k : c.merge.j < length c.args.b.now = omega arith in
-    let e = sym c.compare_places.ensures ∙ c.in-Equal.is in
-    record {
-      in_a = omega arith;
-      in_b = omega arith;
-      order = rw c.in_ok-push-in-Equal.ensures.items (order-push c.args.order c.merge.out.items _ c.merge.invariant.order c.in_ok-joined-in-Equal.ensures.order);
-      merging = after-equal c.args.order c.args.a.now c.args.b.now c.merge.out.items _ c.merge.i c.merge.j c.index-a-i.result c.index-b-j.result _ h k c.index-a-i.is c.index-b-j.is c.in_ok-push-in-Equal.ensures.items c.merge.invariant.merging
-          c.in_ok-joined-in-Equal.ensures.wall (one-start c.args.order c.args.a.now c.args.b.now c.index-a-i.result c.index-b-j.result e) (one-direction c.args.order c.args.a.now c.args.b.now c.index-a-i.result c.index-b-j.result e);
-    }
-
-over : (c : In_ok-push_raised-2) → (length c.args.a.now ≤ c.merge.i) ⊎ (length c.args.b.now ≤ c.merge.j)
-over c = elim c.merge-test.branch [ then-merge-test+else-j-b w ↦ inr (omega arith) | else-merge-test w ↦ inl (omega arith) ]
+pub loop-x-smaller : goal.loop-x-smaller
+loop-x-smaller c = rw (c.advance.ensures.first, c.advance.ensures.second) (rests-shorter c.compare_places-place.result c.in-Some.x.now c.in-Some.y.now c.loop-x.rests.first.now c.loop-x.rests.second.now c.in-Some.ensures.first c.in-Some.ensures.second)
 
 all : (c : In_ok-push_raised-2) → Merged c.args.order (walls_of c.args.a.now) (walls_of c.args.b.now) (walls_of c.push_raised-2.new.out.items)
 all c =
-    let h : walls_of c.push_raised.new.out.items ≡ walls_of c.merge.out.items ++ walls_of (take (length c.args.a.now - c.merge.i) (drop c.merge.i c.args.a.now)) = c.in_ok-push_raised.ensures.walls in
-    let k : walls_of c.push_raised-2.new.out.items ≡ walls_of c.push_raised.new.out.items ++ walls_of (take (length c.args.b.now - c.merge.j) (drop c.merge.j c.args.b.now)) = c.in_ok-push_raised-2.ensures.walls in
-    rw (k, h, take_rest c.args.a.now c.merge.i, take_rest c.args.b.now c.merge.j) (all-merged c.args.order c.args.a.now c.args.b.now c.merge.out.items c.merge.i c.merge.j (over c) c.merge.invariant.merging)
+    let h : walls_of c.push_raised.new.out.items ≡ walls_of c.loop-x.out.items ++ walls_of c.loop-x.rests.first.now = c.in_ok-push_raised.ensures.walls in
+    let k : walls_of c.push_raised-2.new.out.items ≡ walls_of c.push_raised.new.out.items ++ walls_of c.loop-x.rests.second.now = c.in_ok-push_raised-2.ensures.walls in
+    rw (k, h) (all-merged c.args.order c.args.a.now c.args.b.now c.loop-x.out.items c.loop-x.rests.first.now c.loop-x.rests.second.now (c.fronts.ensures.ended c.in_default.is) c.loop-x.invariant.merging)
 
 pub returns-clause-rays : goal.returns-clause-rays
-returns-clause-rays c = merged-are-rays c.args.order (walls_of c.args.a.now) (walls_of c.args.b.now) _ (c.in_ok-push_raised-2.ensures.order (c.in_ok-push_raised.ensures.order c.merge.invariant.order)) (all c)
+returns-clause-rays c = merged-are-rays c.args.order (walls_of c.args.a.now) (walls_of c.args.b.now) _ (c.in_ok-push_raised-2.ensures.order (c.in_ok-push_raised.ensures.order c.loop-x.invariant.order)) (all c)
 
 pub returns-clause-terms : goal.returns-clause-terms
 returns-clause-terms c = (all c).terms

@@ -1,25 +1,31 @@
-use Rattle.std.proofs.Common.{arith, ◌≡◌, [], List, ℕ, map, length, ◌+◌, nat_abs, sym, ◌∙◌, ap}
-use Rattle.std.proofs.lemmas.List.{get_or-map, length-map}
-use Rattle.std.proofs.lemmas.Slice.Eq.{slice_eq-Decides}
+use Rattle.std.proofs.Common.{arith, ◌∙◌, List, ℕ, map, sym}
+use Rattle.std.proofs.lemmas.List.{length-map}
 use Rattle.std.proofs.lemmas.Bool.Decides.{Decides-eqb}
-use Rattle.std.proofs.lemmas.Int.{to_z-of_z}
-use Rattle.scatter_text.proofs.Tokens.{line_form, term_form}
+use Rattle.scatter_text.proofs.Slots.{form-placed, form-after, form-before, form-end}
+use Rattle.scatter_text.proofs.Tokens.{not-true}
 use Rattle.scatter_text.proofs.line.has_form.Goals as goal
 
-pub returns-then-tokens-eq6 : goal.returns-then-tokens-eq6
-returns-then-tokens-eq6 c =
-    let texts : List (List ℕ) = map (λ t. t.now) c.args.tokens.now in
-    let form = line_form c.args.vars texts (rw c.in-Line.is at c.requires) (length-map c.args.tokens.now (λ t. t.now) ∙ c.if-tokens-eq6.true) in
-    let third = get_or-map (λ t. t.now) c.args.tokens.now 3 record { ref_ptr = (0, 0); now = [] } [] (omega arith) in
-    let decides = slice_eq-Decides Decides-eqb _ c.as_slice.result.now c.eq.result c.eq.ensures in
-    rw c.in-Line.is (λ yes. form.1 (third ∙ decides.0 yes ∙ c.as_slice.ensures), λ h. decides.1 (sym third ∙ form.0 h ∙ sym c.as_slice.ensures))
+pub returns-then-not-are_in_place : goal.returns-then-not-are_in_place
+returns-then-not-are_in_place c =
+    let placed = form-placed (λ t. t.now) c.args.variables c.args.slots.now c.args.tokens.now c.loop-slot.slot-index c.loop-slot.start c.token_count-count.result _ c.loop-slot-test.true c.token_count-count.ensures in (
+      λ never. cc,
+      λ h. absurd (not-true c.are_in_place.result c.if-not-are_in_place.true (c.are_in_place.ensures.1 (rw c.part.ensures (placed (c.loop-slot.invariant.decides.0 h))))),
+    )
 
-pub returns-in-Term : goal.returns-in-Term
-returns-in-Term c =
-    let fits = c.ranges.vars in
+pub loop-slot-preserved : goal.loop-slot-preserved
+loop-slot-preserved c =
+    let later = form-after (λ t. t.now) c.args.variables c.args.slots.now c.args.tokens.now c.loop-slot.slot-index c.loop-slot.start c.token_count-count.result _ c.loop-slot-test.true c.token_count-count.ensures in
+    let before = form-before (λ t. t.now) c.args.variables c.args.slots.now c.args.tokens.now c.loop-slot.slot-index c.loop-slot.start c.token_count-count.result _ c.loop-slot-test.true c.token_count-count.ensures in
+    let placed = rw c.part.ensures at (c.are_in_place.ensures.0 c.if-not-are_in_place.false) in
+    record {
+      within = omega (arith, c.if-tokens-start.false, c.loop-slot.invariant.within);
+      decides = (λ h. later (c.loop-slot.invariant.decides.0 h), λ h. c.loop-slot.invariant.decides.1 (before c.if-tokens-start.false placed h));
+    }
+
+pub returns : goal.returns
+returns c =
     let texts : List (List ℕ) = map (λ t. t.now) c.args.tokens.now in
-    let form = term_form c.args.vars texts (rw c.in-Term.is at c.requires) in
-    let count : length texts ≡ length c.args.tokens.now = length-map c.args.tokens.now (λ t. t.now) in
-    let vars : c.unsigned_abs.result ≡ nat_abs c.args.vars = simp to_z-of_z at c.unsigned_abs.ensures.value in
-    let decides = Decides-eqb (length c.args.tokens.now) (3 + c.unsigned_abs.result) in
-    rw c.in-Term.is (λ yes. form.1 (count ∙ decides.0 yes ∙ ap (λ n. 3 + n) vars), λ h. decides.1 (sym count ∙ form.0 h ∙ ap (λ n. 3 + n) (sym vars)))
+    let count = length-map c.args.tokens.now (λ t. t.now) in
+    let ends = form-end c.args.variables c.args.slots.now c.loop-slot.slot-index c.loop-slot.start texts c.loop-slot-test.false (omega (arith, c.loop-slot.invariant.within, count)) in
+    let same = Decides-eqb c.loop-slot.start _ in
+    (λ yes. c.loop-slot.invariant.decides.1 (ends.1 (same.0 yes ∙ sym count)), λ h. same.1 (ends.0 (c.loop-slot.invariant.decides.0 h) ∙ count))

@@ -1,13 +1,23 @@
-use Rattle.std.proofs.Common.{rules, FitsSigned}
+use Rattle.std.proofs.Common.{rules, ◌↔◌, ℤ, FitsSigned, nat_abs, subst}
+use Rattle.std.specs.Prelude.{IsTrue, IfOk}
 use Rattle.std.specs.Int.{w64}
 use Rattle.std.proofs.lemmas.Int.{to_z-of_z}
+use Rattle.scatter_text.specs.declared.file.TermRow.{TermRow}
+use Rattle.scatter_text.specs.Values.{AreCoprime}
+use Rattle.scatter_text.specs.Grammar.{IsTermAfter}
+use Rattle.scatter_text.specs.Stages.{rows_of}
 use Rattle.scatter_text.proofs.stage.Stage.allows.Goals as goal
 
 pub returns-in-Line : goal.returns-in-Line
 returns-in-Line c =
-    let dx : FitsSigned w64 c.in-Line.dx = search rules in
-    let dy : FitsSigned w64 c.in-Line.dy = search rules in
-    rw c.in-Line.is (simp to_z-of_z at c.is_primitive.ensures)
+    let P : ℤ → ℤ → Type 0 = λ dx dy. IsTrue c.is_primitive.result ↔ AreCoprime (nat_abs dx) (nat_abs dy) in
+    let first : FitsSigned w64 c.number-in-Line.result = search rules in
+    let second : FitsSigned w64 c.number-in-Line-2.result = search rules in
+    let dx = c.number-in-Line.ensures in
+    let dy = c.number-in-Line-2.ensures in
+    rw c.in-Line.is (subst (λ z. z) (λ i. P (dx i) (dy i)) (simp to_z-of_z at c.is_primitive.ensures))
 
-pub returns-in-Term : goal.returns-in-Term
-returns-in-Term c = rw c.in-Term.is c.allows_term.ensures
+pub returns-in_ok-term-in-Term : goal.returns-in_ok-term-in-Term
+returns-in_ok-term-in-Term c =
+    let P : TermRow → Type 0 = λ term. IfOk c.allows_term.result (λ b. IsTrue b ↔ IsTermAfter (rows_of c.args.self.now) term) in
+    rw c.in-Term.is (subst P c.in_ok-term-in-Term.ensures c.allows_term.ensures)

@@ -1,0 +1,32 @@
+// Inputs that several tests complete.
+
+// 1 + t1*x and 1 + t2*y on two lines.
+pub const TWO_LINES: &str = "scatter 1
+vars 2
+line 1 0 at 0 0
+term 1 1 1 0
+line 0 1 at 0 0
+term 1 1 0 1
+end
+";
+
+pub const TWO_LINES_AT_1: &str = "scatter 1
+vars 2
+order 1
+line 1 0 at 0 0
+term 1 1 1 0
+line 0 1 at 0 0
+term 1 1 0 1
+end
+";
+
+// 1 + t1*x and (1 + t2*y)^2.
+pub const ONE_AND_TWO: &str = "scatter 1
+vars 2
+line 1 0 at 0 0
+term 1 1 1 0
+line 0 1 at 0 0
+term 2 1 0 1
+term 1 2 0 2
+end
+";
