@@ -25,7 +25,7 @@ wall_of d f = record { kind = Line; at = record { x = pos 0; y = pos 0; w = pos 
 abbrev half_of : Exp → Sum → ℤ → Half
 half_of d f s = half (wall_of d f) (neg_ℤ s)
 
-twice-negated : (s : ℤ) → neg_ℤ (neg_ℤ s) ≡ s
+pub twice-negated : (s : ℤ) → neg_ℤ (neg_ℤ s) ≡ s
 twice-negated s = ring ints_ring (s ∷ []) (minus (minus X)) X refl
 
 module _ (k m : ℕ) (d : Exp) (f : Sum) (s : ℤ) (w : IsWallFunction m d f) where

@@ -7,8 +7,12 @@ pub mod HalfWalls
 pub mod Keys
 pub mod LiveWalls
 pub mod LocalProductLaws
+pub mod LocalRuns
 pub mod OtherFunctions
 pub mod PassivePoints
+pub mod Runs
 pub mod SortingByAngle
+pub mod StableSorting
+pub mod SupportingLines
 pub mod Translation
 pub mod TwoWalls

@@ -9,7 +9,13 @@ use Rattle.sum_algebra.proofs.Ring as E
 use Rattle.scattering.specs.Collections.{In, Every}
 use Rattle.scattering.specs.Series.{Exp, Term, degree, rest, det}
 use Rattle.scattering.specs.Plane.{Point, IsPoint}
-use Rattle.scattering.specs.Wall.{Wall, is_live, are_parallel, has_term_to}
+use Rattle.std.specs.List.{flat_map}
+use Rattle.scattering.specs.SupportingLine.{runs}
+use Rattle.scattering.specs.Wall.{Wall, IsWall, is_live, are_parallel, has_term_to}
+use Rattle.crossing_theory.proofs.SupportingLines.{In-runs, runs-In}
+use Rattle.scatter_diagram.specs.Kinds.{kind_of}
+use Rattle.scatter_diagram.specs.declared.wall.WallKind.{WallKind as CodeKind}
+use Rattle.scatter_diagram.specs.declared.wall.WallKind.TheVariants.{Line as LineKind, Outgoing as OutgoingKind}
 use Rattle.scattering.specs.ActivePoint.{is_active, is_incoming, begins_at}
 use Rattle.scattering.proofs.Lists.{and-left, and-right, any-none, any-true, any-some, Every-at, In-append, In-left, In-right, map-append}
 use Rattle.scattering.proofs.Keys.{int_eq-same}
@@ -200,3 +206,20 @@ active-meeting n ls ws p h none i a = go (active-out n ws p a)
     go : CrossesAt n ws p ⊎ EntersAt n ws p → AreMeeting n ls p
     go (inl c) = crossing c
     go (inr c) = let e = Every-at (λ (w : Wall). is_incoming w.kind ≡ false) ws c.w none c.w_in in let f = c.incoming in absurd (cc)
+
+-- ---- run by run
+
+-- the live ones of all runs are those of all walls
+pub live-runs : (n : ℕ) (ls : List LiveWall) (ws : List Wall) → Every (IsWall n) ws → AreLive ls (flat_map (λ g. g) (runs ws)) → AreLive ls ws
+live-runs n ls ws h a = record {
+  each = λ l i. let r = a.each l i in (r.0, In-runs n ws r.0 h r.1, r.2);
+  all = λ w i e. a.all w (runs-In n ws w h i) e;
+}
+
+pub not-incoming : (ws : List CodeWall) → Every (λ (w : Wall). is_incoming w.kind ≡ false) (walls_of ws)
+not-incoming [] = tt
+not-incoming (w ∷ ws) = (kind w.kind, not-incoming ws)
+  where
+    kind : (k : CodeKind) → is_incoming (kind_of k) ≡ false
+    kind LineKind = refl
+    kind OutgoingKind = refl

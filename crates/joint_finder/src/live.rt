@@ -26,8 +26,9 @@ pub(crate) fn live_walls(alloc: Global, e: &Diagram) -> Result<Vec<LiveWall>, Al
     ensures sorted { IfOk result (λ r. IsNonDecreasingBy (λ w. w.degree) r.items) }
 {
     let mut live = Vec::new(alloc);
-    add_live(&mut live, e.lines())?;
-    add_live(&mut live, e.rays())?;
+    for run in 0..e.run_count() {
+        add_live(&mut live, e.along(run))?;
+    }
     live.sort_by_key(|w| w.degree)?;
     Ok(live)
 }

@@ -1,4 +1,3 @@
-pub mod StableSorting
 pub mod LowDegrees
 pub mod Exponents
 pub mod Sides

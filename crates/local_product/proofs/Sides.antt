@@ -26,7 +26,7 @@ use Rattle.wall_auto.specs.declared.side.Side.TheVariants.{Plus, Minus}
 use Rattle.wall_auto.specs.Sign.{sign}
 use Rattle.local_product.specs.declared.half_walls.HalfWall.{HalfWall}
 use Rattle.local_product.specs.Shown.{half_of, halves_of, half_before, HalvesHaveOrder}
-use Rattle.local_product.proofs.StableSorting.{stable-in_order}
+use Rattle.crossing_theory.proofs.StableSorting.{stable-in_order}
 
 -- ---- one wall more
 

@@ -3,6 +3,7 @@
 ghost use Rattle.std.specs.Prelude.{◌≡◌, ◌≤◌, IfOk, OnOk};
 ghost use Rattle.limits.specs.Limits.{highest_order};
 ghost use Rattle.scattering.specs.Collections.{Every};
+ghost use Rattle.scattering.specs.SupportingLine.{by_line};
 ghost use Rattle.scattering.specs.Wall.{IsWall, walls, cut_wall};
 ghost use Rattle.scatter_diagram.specs.Listed.{AreOfOrder};
 ghost use Rattle.scatter_diagram.specs.Proper.{IsTame};
@@ -62,7 +63,9 @@ fn push_local(
     Ok(())
 }
 
-/// The walls of a diagram that are on the point, lines first, with their functions to this order.
+/// The walls of a diagram that are on the point, run by run, with their functions to this order.
+///
+/// One wall of each run tells whether the run's line holds the point; only then are the others looked at.
 pub fn local_walls(
     alloc: Global,
     e: &Diagram,
@@ -71,13 +74,17 @@ pub fn local_walls(
 ) -> Result<Vec<Wall>, AllocError>
     requires { order ≤ highest_order }
     ensures walls { IfOk result
-        (λ r. walls_of r.items ≡ local_part order (walls e.now.diagram) p.now) }
+        (λ r. walls_of r.items ≡ local_part order (by_line (walls e.now.diagram)) p.now) }
     ensures order { IfOk result (λ r. AreOfOrder order r.items) }
     ensures proper { OnOk result (Every (IsWall e.now.order) (walls e.now.diagram)) }
     ensures tame { OnOk result (Every (λ w. Every IsTame w.function) (walls e.now.diagram)) }
 {
     let mut out = Vec::new(alloc);
-    push_local(alloc, &mut out, e.lines(), p, order)?;
-    push_local(alloc, &mut out, e.rays(), p, order)?;
+    for run in 0..e.run_count() {
+        let walls = e.along(run);
+        if walls[0].line_holds(p) {
+            push_local(alloc, &mut out, walls, p, order)?;
+        }
+    }
     Ok(out)
 }

@@ -114,10 +114,7 @@ fn is_ray(ray: &Wall, at: Point, a: i32, b: i32, terms: &[(Key, i128)]) -> bool 
 
 // Whether the only ray of the diagram is from the origin along (1, 1) and has the function.
 fn has_diagonal(e: &Diagram, terms: &[(Key, i128)]) -> bool {
-    match e.rays() {
-        [ray] => is_ray(ray, origin(), 1, 1, terms),
-        _ => false,
-    }
+    e.ray_count() == 1 && is_ray(e.ray(0), origin(), 1, 1, terms)
 }
 
 fn lines_get_a_diagonal(alloc: Global) -> Result<bool, Fail> {
@@ -128,8 +125,12 @@ fn lines_get_a_diagonal(alloc: Global) -> Result<bool, Fail> {
 // Whether the lines stay, cut to the order.
 fn lines_are_cut(alloc: Global) -> Result<bool, Fail> {
     let next = of_lines(alloc, &lines(alloc)?, &[(XY, whole(-1))])?;
-    let cut = next.lines().iter().all(|w| w.function.order() == 2);
-    Ok(next.order() == 2 && next.line_count() == 2 && cut)
+    Ok(
+        next.line_count() == 2
+            && next.line(0).function.order() == 2
+            && next.line(1).function.order() == 2
+            && next.order() == 2,
+    )
 }
 
 // Whether the correction -2·t1·t2·x^2·y^2 gives twice that.
@@ -179,10 +180,11 @@ fn rays_get_terms(alloc: Global) -> Result<bool, Fail> {
     let next = with_terms(alloc, &lines(alloc)?)?;
     let diagonal = [(ONE, 1), (XY, 2), (T1T1T1T2_XY, -5), (XXYY, 3)];
     let steep = [(ONE, 1), (XYYY, -1)];
-    match next.rays() {
-        [r, s] => { Ok(is_ray(r, origin(), 1, 1, &diagonal) && is_ray(s, origin(), 1, 3, &steep)) }
-        _ => Ok(false),
-    }
+    Ok(
+        next.ray_count() == 2
+            && is_ray(next.ray(0), origin(), 1, 1, &diagonal)
+            && is_ray(next.ray(1), origin(), 1, 3, &steep),
+    )
 }
 
 // Whether t2^3·y^3 is cut from a line's function at order 2.
@@ -190,10 +192,7 @@ fn high_terms_are_cut(alloc: Global) -> Result<bool, Fail> {
     let mut lines = Vec::new(alloc);
     lines.push(line(alloc, 0, 0, 0, 1, &[(ONE, 1), (YYY, 1)])?)?;
     let next = of_lines(alloc, &Initial::new(2, lines), &[(XY, whole(-1))])?;
-    match next.lines() {
-        [w] => Ok(w.function.terms() == [(ONE, 1)].as_slice()),
-        _ => Ok(false),
-    }
+    Ok(next.line_count() == 1 && next.line(0).function.terms() == [(ONE, 1)].as_slice())
 }
 
 #[test]
@@ -224,8 +223,15 @@ fn most_are_merged(alloc: Global) -> Result<bool, Fail> {
         return Ok(false);
     };
     let terms = [(ONE, 1), (T1T1_X, 1)];
-    let mut places = (0..8192u16).zip(next.rays());
-    Ok(next.ray_count() == 8192 && places.all(|(x, r)| is_ray(r, on_axis(x), 1, 0, &terms)))
+    if next.ray_count() != 8192 {
+        return Ok(false);
+    }
+    for x in 0..8192u16 {
+        if !is_ray(next.ray(usize::from(x)), on_axis(x), 1, 0, &terms) {
+            return Ok(false);
+        }
+    }
+    Ok(true)
 }
 
 #[test]

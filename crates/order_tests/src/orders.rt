@@ -8,7 +8,7 @@ use sample_walls::monomials::{
     ONE, T1T2_XXYY, T1T2T3_XXY, T2_XXY, T2_XYY, T2T3_XY, T3_X, X, XXY, XXYY, XY, XYY, Y,
 };
 use sample_walls::{axes, line, plain_axes, square_axes};
-use scatter_diagram::{Diagram, Initial, Stop, StopCause, Wall};
+use scatter_diagram::{Diagram, Initial, Stop, StopCause, Wall, WallKind};
 use scatter_step::{Completed, Outcome, complete_plain};
 use std::alloc::Global;
 use std::test::Fail;
@@ -23,10 +23,7 @@ fn is_ray(ray: &Wall, start: (i64, i64), dir: (i32, i32), terms: &[(Key, i128)])
 
 // Whether the only ray of the diagram is from (0, 0) along (1, 1) and has the function.
 fn has_diagonal(e: &Diagram, terms: &[(Key, i128)]) -> bool {
-    match e.rays() {
-        [ray] => is_ray(ray, (0, 0), (1, 1), terms),
-        _ => false,
-    }
+    e.ray_count() == 1 && is_ray(e.ray(0), (0, 0), (1, 1), terms)
 }
 
 // ---- two lines
@@ -78,14 +75,44 @@ fn two_lines(rt: HostRuntime) -> Result<(), Fail> {
 // ---- more lines, and more terms
 
 fn has_three_rays(outcome: &Outcome) -> bool {
-    match outcome.last.diagram().rays() {
-        [r, s, t] => {
-            is_ray(r, (-1, 0), (2, 1), &[(ONE, 1), (T1T2T3_XXY, 1)])
-                && is_ray(s, (0, 0), (1, 1), &[(ONE, 1), (XY, 1)])
-                && is_ray(t, (0, 1), (1, 1), &[(ONE, 1), (T2T3_XY, 1)])
+    let e = outcome.last.diagram();
+    e.ray_count() == 3
+        && is_ray(e.ray(0), (-1, 0), (2, 1), &[(ONE, 1), (T1T2T3_XXY, 1)])
+        && is_ray(e.ray(1), (0, 0), (1, 1), &[(ONE, 1), (XY, 1)])
+        && is_ray(e.ray(2), (0, 1), (1, 1), &[(ONE, 1), (T2T3_XY, 1)])
+}
+
+// Whether one wall alone lies along that supporting line: of this kind, along dir, at (x, y).
+fn has_run(e: &Diagram, run: usize, kind: WallKind, dir: (i32, i32), at: (i64, i64)) -> bool {
+    if run >= e.run_count() {
+        return false;
+    }
+    match e.along(run) {
+        [w] => {
+            w.kind == kind
+                && (w.dir.a, w.dir.b) == dir
+                && (w.at.x, w.at.y, w.at.w) == (at.0, at.1, 1)
         }
         _ => false,
     }
+}
+
+fn has_six_runs(outcome: &Outcome) -> bool {
+    let e = outcome.last.diagram();
+    e.run_count() == 6
+        && has_run(e, 0, WallKind::Line, (0, 1), (0, 0))
+        && has_run(e, 1, WallKind::Line, (1, 0), (0, 0))
+        && has_run(e, 2, WallKind::Line, (1, 0), (0, 1))
+        && has_run(e, 3, WallKind::Outgoing, (1, 1), (0, 0))
+        && has_run(e, 4, WallKind::Outgoing, (1, 1), (0, 1))
+        && has_run(e, 5, WallKind::Outgoing, (2, 1), (-1, 0))
+}
+
+fn three_lines_have_six_runs(alloc: Global) -> Result<bool, Fail> {
+    let mut lines = plain_axes(alloc)?;
+    lines.push(line(alloc, 0, 1, 1, 0, &[(ONE, 1), (T3_X, 1)])?)?;
+    let outcome = complete_plain(alloc, &Initial::new(3, lines), 3)?;
+    Ok(outcome.stop.is_none() && has_six_runs(&outcome))
 }
 
 fn three_lines_have_a_ray_where_rays_cross(alloc: Global) -> Result<bool, Fail> {
@@ -96,14 +123,11 @@ fn three_lines_have_a_ray_where_rays_cross(alloc: Global) -> Result<bool, Fail> 
 }
 
 fn has_rays_of_squares(outcome: &Outcome) -> bool {
-    match outcome.last.diagram().rays() {
-        [r, s, t] => {
-            is_ray(r, (0, 0), (1, 1), &[(ONE, 1), (XY, 4), (XXYY, 10)])
-                && is_ray(s, (0, 0), (1, 2), &[(ONE, 1), (XYY, 2)])
-                && is_ray(t, (0, 0), (2, 1), &[(ONE, 1), (XXY, 2)])
-        }
-        _ => false,
-    }
+    let e = outcome.last.diagram();
+    e.ray_count() == 3
+        && is_ray(e.ray(0), (0, 0), (1, 1), &[(ONE, 1), (XY, 4), (XXYY, 10)])
+        && is_ray(e.ray(1), (0, 0), (1, 2), &[(ONE, 1), (XYY, 2)])
+        && is_ray(e.ray(2), (0, 0), (2, 1), &[(ONE, 1), (XXY, 2)])
 }
 
 fn squares_have_three_rays(alloc: Global) -> Result<bool, Fail> {
@@ -132,6 +156,7 @@ fn a_cut_completion_is_that_of_the_order(alloc: Global) -> Result<bool, Fail> {
 #[test]
 fn more_rays(rt: HostRuntime) -> Result<(), Fail> {
     assert!(rt; three_lines_have_a_ray_where_rays_cross(rt.alloc())?);
+    assert!(rt; three_lines_have_six_runs(rt.alloc())?);
     assert!(rt; squares_have_three_rays(rt.alloc())?);
     assert!(rt; a_cut_completion_is_that_of_the_order(rt.alloc())?);
     Ok(())

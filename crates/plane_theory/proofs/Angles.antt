@@ -63,7 +63,7 @@ or-none true y z h = absurd (cc)
 or-none false true z h = (refl, inr h)
 or-none false false z h = (refl, inl refl)
 
-lt-not : (a b : ℤ) → int_lt a b ≡ false → b ≤ℤ a
+pub lt-not : (a b : ℤ) → int_lt a b ≡ false → b ≤ℤ a
 lt-not a b h = omega (arith, ints, h)
 
 eq-not : (a : ℤ) → int_eq a (pos 0) ≡ false → a ≢ pos 0

@@ -108,7 +108,7 @@ test-beyond p e q u v n h k =
     (dot e (difference p q), (e.a *ℤ e.a +ℤ e.b *ℤ e.b) *ℤ (p.w *ℤ q.w), k, onto-at p e _ (e.a *ℤ e.a +ℤ e.b *ℤ e.b) q u v (dot-onto p e q (norm-positive e n) h))
 
 -- ---- backwards
-minus-one : (e : ℤ) → negsuc 0 *ℤ e ≡ neg_ℤ e
+pub minus-one : (e : ℤ) → negsuc 0 *ℤ e ≡ neg_ℤ e
 minus-one e = omega (arith, ints)
 
 turn1 : (px pw qx qw n d e : ℤ) → d *ℤ (qx *ℤ pw -ℤ px *ℤ qw) ≡ n *ℤ neg_ℤ e → d *ℤ (px *ℤ qw -ℤ qx *ℤ pw) ≡ n *ℤ e

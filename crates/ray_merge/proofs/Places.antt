@@ -8,7 +8,7 @@ use Rattle.scattering.proofs.Keys.{point_eq-same, point_eq-refl}
 use Rattle.plane_theory.proofs.PointOrder.{before-irrefl}
 use Rattle.plane_theory.proofs.TotalOrder.{place_before}
 use Rattle.plane_geom.specs.Shown.{point_order}
-use Rattle.ray_merge.specs.Rays.{exp_order}
+use Rattle.scatter_diagram.specs.Ordered.{exp_order}
 
 abbrev place_order : Point → Exp → Point → Exp → Ordering
 place_order p d q e = cond (place_before (p, d) (q, e)) Less (cond (place_before (q, e) (p, d)) Greater Equal)

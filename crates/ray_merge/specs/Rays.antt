@@ -13,7 +13,7 @@ use Rattle.std.specs.declared.cmp.Ordering.{Ordering}
 use Rattle.std.specs.declared.cmp.Ordering.TheVariants.{Less, Equal, Greater}
 use Rattle.limits.specs.Limits.{largest_mass}
 use Rattle.scattering.specs.Collections.{In, Every}
-use Rattle.scattering.specs.Series.{Exp, Key, Term, Sum, degree, coef, coef_at, rest, mass_to, exp_before, IsMultiple}
+use Rattle.scattering.specs.Series.{Exp, Key, Term, Sum, degree, coef, coef_at, rest, mass_to, IsMultiple}
 use Rattle.scattering.specs.Plane.{Point}
 use Rattle.scattering.specs.Wall.{Outgoing, Wall, is_live}
 use Rattle.scattering.specs.Completion.{ray_before, IsReduced}
@@ -21,9 +21,6 @@ use Rattle.scattering.specs.Correction.{Lie, Corrections}
 use Rattle.scatter_diagram.specs.declared.wall.Wall.{Wall as CodeWall}
 use Rattle.scatter_diagram.specs.Shown.{walls_of}
 use Rattle.ray_merge.specs.Additions.{AreAdded, terms_along}
-
-abbrev pub exp_order : Exp → Exp → Ordering
-exp_order d e = cond (exp_before d e) Less (cond (exp_before e d) Greater Equal)
 
 abbrev pub ray_order : Wall → Wall → Ordering
 ray_order r s = cond (ray_before r s) Less (cond (ray_before s r) Greater Equal)

@@ -203,7 +203,8 @@ pub fn merged(
 {
     let lines = cut_walls(alloc, order, initial.lines())?;
     let added = added_rays(alloc, order, corrections)?;
-    let rays = merged_rays(alloc, order, e.rays(), added.as_slice())?;
+    let old = e.copied_rays()?;
+    let rays = merged_rays(alloc, order, old.as_slice(), added.as_slice())?;
     if lines.len() + rays.len() > MOST_WALLS {
         return Err(Stop::At {
             order,

@@ -1,7 +1,6 @@
 -- Walls of the program as walls of the definitions: what they meet, and their functions cut.
-use Rattle.std.proofs.Common.{◌≡◌, ℕ, ◌<◌, ◌≤◌, ◌^◌, refl, sym, ap, subst, ◌∙◌, Bool, true, false, zero, suc, length, map, get_or, List, [], ◌∷◌, arith}
+use Rattle.std.proofs.Common.{◌≡◌, ℕ, ◌<◌, ◌≤◌, ◌^◌, refl, sym, subst, Bool, true, false, zero, suc, length, get_or, List, [], ◌∷◌, arith}
 use Rattle.std.specs.Prelude.{nat_le}
-use Rattle.std.proofs.lemmas.List.{get_or-map}
 use Rattle.scattering.specs.Collections.{Every}
 use Rattle.scattering.specs.Series.{Sum, IsWallFunction, degree, cut, mass_to}
 use Rattle.scattering.specs.Wall.{WallKind, Wall, IsWall, cut_wall, cut_walls}
@@ -13,7 +12,7 @@ use Rattle.plane_geom.specs.Shown.{vector_of}
 use Rattle.scatter_diagram.specs.declared.wall.Wall.{Wall as CodeWall}
 use Rattle.scatter_diagram.specs.Proper.{IsProper, IsTame, AreTameWalls}
 use Rattle.scatter_diagram.specs.Shown.{wall_of, walls_of}
-use Rattle.scatter_diagram.specs.Listed.{AreOfOrder, orders_of}
+use Rattle.scatter_diagram.specs.Listed.{AreOfOrder}
 
 pub is-wall : (w : CodeWall) → IsWall w.function.order (wall_of w)
 is-wall w = record { point = w.at.reduced; direction = w.dir.primitive; function = w.proper.function }
@@ -68,21 +67,6 @@ pub wall-at : (P : Wall → Type 0) (ws : List CodeWall) (i : ℕ) (w : CodeWall
 wall-at P [] i w l e h = absurd (omega (arith, l))
 wall-at P (v ∷ ws) zero w l e h = subst (λ (u : CodeWall). P (wall_of u)) (sym e) h.0
 wall-at P (v ∷ ws) (suc i) w l e h = wall-at P ws i w (omega (arith, l)) e h.1
-
-pub same-at : {B : Type 0} (g : CodeWall → B) (a b : List CodeWall) (i : ℕ) (u v : CodeWall) → i < length a → length a ≡ length b → u ≡ get_or a i u → v ≡ get_or b i v → map g a ≡ map g b → g u ≡ g v
-same-at g a b i u v l n p q e =
-    ap g p ∙ sym (get_or-map g a i u (g u) l) ∙ ap (λ f. get_or f i (g u)) e ∙ get_or-map g b i v (g u) (omega (arith, l, n)) ∙ ap g (sym q)
-
--- lists of the same walls, with functions of one order
-pub orders-same : (n : ℕ) (a b : List CodeWall) → AreOfOrder n a → AreOfOrder n b → walls_of a ≡ walls_of b → orders_of a ≡ orders_of b
-orders-same n [] [] h i e = refl
-orders-same n [] (v ∷ b) h i e = absurd (cc)
-orders-same n (u ∷ a) [] h i e = absurd (cc)
-orders-same n (u ∷ a) (v ∷ b) h i e = let p : u.function.order ≡ v.function.order = h.0 ∙ sym i.0 in let q = orders-same n a b h.1 i.1 (ap rest-of e) in λ j. p j ∷ q j
-  where
-    rest-of : List Wall → List Wall
-    rest-of [] = []
-    rest-of (w ∷ ws) = ws
 
 pub kinds-cut : (k : WallKind) (n : ℕ) (ws : List Wall) → Every (λ w. w.kind ≡ k) ws → Every (λ w. w.kind ≡ k) (cut_walls n ws)
 kinds-cut k n [] h = tt

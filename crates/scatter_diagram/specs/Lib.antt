@@ -4,3 +4,5 @@ pub mod Kinds
 pub mod Shown
 pub mod Listed
 pub mod Stopped
+pub mod Ordered
+pub mod Stored

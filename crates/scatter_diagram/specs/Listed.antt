@@ -3,16 +3,13 @@
 --     AreRays n ws             outgoing rays with functions of order n, reduced
 --     SeenInitial              the number of variables and the lines
 --     SeenDiagram              the order, the lines and the rays
-use Rattle.std.specs.Prelude.{◌≡◌, ℕ, ◌≤◌, List, length, map, filter}
+use Rattle.std.specs.Prelude.{◌≡◌, ℕ, ◌≤◌, List, length}
 use Rattle.limits.specs.Limits.{highest_order, most_lines, most_variables}
 use Rattle.scattering.specs.Collections.{Every}
-use Rattle.scattering.specs.Wall.{Line, Outgoing, Wall, Diagram, cut_walls, is_live}
+use Rattle.scattering.specs.Wall.{Line, Outgoing, Wall, Diagram}
 use Rattle.scattering.specs.Completion.{IsReduced, lowered}
 use Rattle.scatter_diagram.specs.declared.wall.Wall.{Wall as CodeWall}
 use Rattle.scatter_diagram.specs.Shown.{walls_of}
-
-abbrev pub orders_of : List CodeWall → List ℕ
-orders_of ws = map (λ w. w.function.order) ws
 
 abbrev pub AreOfOrder : ℕ → List CodeWall → Type 0
 AreOfOrder n ws = Every (λ w. w.function.order ≡ n) ws
@@ -33,12 +30,6 @@ pub record IsInitialList (vars : ℕ) (ws : List CodeWall) : Type 0 where
   pub few_lines : length ws ≤ most_lines
   pub lines : AreLines highest_order ws
 
--- what a diagram keeps
-pub record IsDiagram (n : ℕ) (ls rs : List CodeWall) : Type 0 where
-  pub order : n ≤ highest_order
-  pub lines : AreLines n ls
-  pub rays : AreRays n rs
-
 -- what contracts see of initial walls
 pub record SeenInitial : Type 0 where
   pub vars : ℕ
@@ -54,11 +45,3 @@ seen_diagram n ls rs = record { order = n; diagram = record { initial = walls_of
 
 abbrev pub lowered_to : ℕ → SeenDiagram → SeenDiagram
 lowered_to n e = record { order = n; diagram = lowered n e.diagram }
-
--- the walls cut to degree n, without those whose functions become 1
-abbrev pub live_cuts : ℕ → List CodeWall → List Wall
-live_cuts n ws = filter is_live (cut_walls n (walls_of ws))
-
--- the same walls, with functions of the same orders
-abbrev pub AreSameWalls : List CodeWall → List CodeWall → Type 0
-AreSameWalls a b = (walls_of a ≡ walls_of b) × (orders_of a ≡ orders_of b)

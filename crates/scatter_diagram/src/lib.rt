@@ -5,12 +5,15 @@
 mod diagram;
 mod initial;
 mod lists;
+mod runs;
 mod shared;
 mod stop;
+mod supporting;
 mod wall;
 
 pub use diagram::Diagram;
 pub use initial::Initial;
 pub use lists::cut_walls;
 pub use stop::{Stop, StopCause};
+pub use supporting::compare_directions;
 pub use wall::{Wall, WallKind, opposite};

@@ -4,6 +4,7 @@ ghost use Rattle.std.specs.Prelude.{◌≡◌, ◌↔◌, ◌≤◌, IsTrue, IfO
 ghost use Rattle.std.specs.List.{list_any};
 ghost use Rattle.scattering.specs.Series.{rest, key_eq, unit};
 ghost use Rattle.scattering.specs.Plane.{Point as PlanePoint, IsPoint};
+ghost use Rattle.scattering.specs.SupportingLine.{supporting_line, line_holds};
 ghost use Rattle.scattering.specs.Wall as D;
 ghost use Rattle.plane_geom.specs.Shown.{point_of, vector_of, OnSupport};
 ghost use Rattle.trunc_series.specs.Shown.{key_of, sum_of};
@@ -11,7 +12,7 @@ ghost use Rattle.scatter_diagram.specs.Proper.{IsProper, IsProper-prop};
 ghost use Rattle.scatter_diagram.specs.Degrees.{IsLeastDegree, lesser_of, opposite};
 ghost use Rattle.scatter_diagram.specs.Kinds.{kind_of};
 
-use plane_geom::{Direction, Point, Support, angle_cmp, on};
+use plane_geom::{Direction, Point, Support, angle_cmp, on, side};
 use std::alloc::AllocError;
 use std::cmp::Ordering;
 use trunc_series::{Key, Series, is_constant};
@@ -127,6 +128,13 @@ impl Wall {
         ensures { result ≡ D.is_on (wall_of self.now) (point_of p.now) }
     {
         on(&self.support(), p)
+    }
+
+    /// Whether the point is on the supporting line.
+    pub fn line_holds(&self, p: &Point) -> bool
+        ensures { result ≡ line_holds (supporting_line (wall_of self.now)) (point_of p.now) }
+    {
+        side(&self.at, &self.dir, p) == 0
     }
 
     /// Whether it is a ray that starts at the point.

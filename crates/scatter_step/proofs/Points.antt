@@ -10,19 +10,15 @@ use Rattle.scattering.specs.ActivePoint.{is_active}
 use Rattle.scattering.specs.Correction.{Lie, Corrections, IsCorrection, AreCorrections}
 use Rattle.scattering.specs.Stops.{AllLight, SomeHeavy}
 use Rattle.scattering.proofs.Lists.{Every-at, map-append, In-mapped}
+use Rattle.crossing_theory.proofs.Runs.{In-place}
 use Rattle.plane_geom.specs.Shown.{point_of}
 use Rattle.plane_geom.specs.declared.Point.{Point as CodePoint}
 use Rattle.joint_finder.specs.Joints.{AreJoints, points_of}
 use Rattle.ray_merge.specs.Additions.{corrections_of}
 use Rattle.scatter_step.specs.Orders.{AreAt, HasHeavy}
 
-In-get_or : {A : Type 0} (xs : List A) (i : ℕ) (d : A) → i < length xs → In (get_or xs i d) xs
-In-get_or [] i d l = absurd (omega (arith, l))
-In-get_or (x ∷ xs) zero d l = inl refl
-In-get_or (x ∷ xs) (suc i) d l = inr (In-get_or xs i d (omega (arith, l)))
-
 pub In-point : (ps : List CodePoint) (i : ℕ) (p : CodePoint) → i < length ps → p ≡ get_or ps i p → In (point_of p) (points_of ps)
-In-point ps i p l q = In-mapped point_of ps p (subst (λ (x : CodePoint). In x ps) (sym q) (In-get_or ps i p l))
+In-point ps i p l q = In-mapped point_of ps p (subst (λ (x : CodePoint). In x ps) (sym q) (In-place ps i p l))
 
 -- ---- corrections at points
 

@@ -1,11 +1,8 @@
 -- The texts of walls, one after the other.
-use Rattle.std.proofs.Common.{◌≡◌, ℕ, refl, sym, subst, ap, ◌∙◌, ◌<◌, ◌+◌, List, [], ◌∷◌, ◌++◌, length, take, get_or, append_assoc}
+use Rattle.std.proofs.Common.{◌≡◌, ℕ, refl, sym, subst, ap, ◌∙◌, ◌<◌, ◌≤◌, ◌+◌, List, [], ◌∷◌, ◌++◌, length, take, get_or, append_assoc}
 use Rattle.std.specs.Prelude.{flat_map}
-use Rattle.std.proofs.lemmas.List.{take_more, append-nil}
+use Rattle.std.proofs.lemmas.List.{take_more, take_all, append-nil}
 use Rattle.scattering.specs.Wall.{Wall}
-use Rattle.scattering.proofs.Lists.{map-append}
-use Rattle.scatter_diagram.specs.Shown.{wall_of, walls_of}
-use Rattle.scatter_diagram.specs.declared.wall.Wall.{Wall as CodeWall}
 use Rattle.scatter_text.specs.DiagramText.{Row, row_text, AreRows, IsWallText, AreWallTexts}
 use Rattle.scatter_text.specs.PrintedRows.{IsHeading}
 
@@ -18,15 +15,22 @@ texts-more word vars [] w a b h k = (b, [], k, refl, ap (λ (t : List ℕ). t ++
 texts-more word vars (v ∷ ws) w a b h k = (h.0, h.1 ++ b, h.2, texts-more word vars ws w h.1 b h.3 k, ap (λ (t : List ℕ). t ++ b) h.4 ∙ append_assoc h.0 h.1 b)
 
 -- the new text is the old one and the texts of these walls under the word
-pub record AreWritten (word : List ℕ) (vars : ℕ) (ws : List CodeWall) (old new : List ℕ) : Type 0 where
+pub record AreWritten (word : List ℕ) (vars : ℕ) (ws : List Wall) (old new : List ℕ) : Type 0 where
   pub piece : List ℕ
-  pub texts : AreWallTexts word vars (walls_of ws) piece
+  pub texts : AreWallTexts word vars ws piece
   pub written : new ≡ old ++ piece
 
-pub written-more : (word : List ℕ) (vars : ℕ) (ws : List CodeWall) (i : ℕ) (w : CodeWall) (old mid new : List ℕ) → i < length ws → w ≡ get_or ws i w → AreWritten word vars (take i ws) old mid
-    → (piece : List ℕ) × IsWallText word vars (wall_of w) piece × (new ≡ mid ++ piece) → AreWritten word vars (take (i + 1) ws) old new
-written-more word vars ws i w old mid new l is h k = subst (λ (vs : List CodeWall). AreWritten word vars vs old new) (sym (take_more ws i w l ∙ ap (λ (v : CodeWall). take i ws ++ v ∷ []) (sym is))) (record {
+pub written-more : (word : List ℕ) (vars : ℕ) (ws : List Wall) (i : ℕ) (w : Wall) (old mid new : List ℕ) → i < length ws → w ≡ get_or ws i w → AreWritten word vars (take i ws) old mid
+    → (piece : List ℕ) × IsWallText word vars w piece × (new ≡ mid ++ piece) → AreWritten word vars (take (i + 1) ws) old new
+written-more word vars ws i w old mid new l is h k = subst (λ (vs : List Wall). AreWritten word vars vs old new) (sym (take_more ws i w l ∙ ap (λ (v : Wall). take i ws ++ v ∷ []) (sym is))) (record {
   piece = h.piece ++ k.0;
-  texts = subst (λ (vs : List Wall). AreWallTexts word vars vs (h.piece ++ k.0)) (sym (map-append wall_of (take i ws) (w ∷ []))) (texts-more word vars (walls_of (take i ws)) (wall_of w) h.piece k.0 h.texts k.1);
+  texts = texts-more word vars (take i ws) w h.piece k.0 h.texts k.1;
   written = k.2 ∙ ap (λ (t : List ℕ). t ++ k.0) h.written ∙ append_assoc old h.piece k.0;
 })
+
+-- all of them
+pub all-written : (word : List ℕ) (vars : ℕ) (ws : List Wall) (i : ℕ) (old new : List ℕ) → length ws ≤ i → AreWritten word vars (take i ws) old new
+    → (piece : List ℕ) × AreWallTexts word vars ws piece × (new ≡ old ++ piece)
+all-written word vars ws i old new l h =
+    let w = subst (λ (vs : List Wall). AreWritten word vars vs old new) (take_all i ws l) h in
+    (w.piece, w.texts, w.written)

@@ -1,10 +1,10 @@
 // The text of a completed diagram, piece by piece.
-ghost use Rattle.std.specs.Prelude.{◌≡◌, ◌≤◌, ◌∷◌, OnOk, IfOk, pos, ◌≤ℤ◌, flat_map, map, decimal};
+ghost use Rattle.std.specs.Prelude.{◌≡◌, ◌≤◌, ◌∷◌, OnOk, IfOk, pos, ◌≤ℤ◌, flat_map, map, decimal, codes};
 ghost use Rattle.std.specs.Fmt.{signed_decimal};
 ghost use Rattle.limits.specs.Limits.{most_variables};
 ghost use Rattle.frac_128.specs.Text.{fraction_text};
 ghost use Rattle.plane_geom.specs.Shown.{point_of, vector_of};
-ghost use Rattle.scatter_diagram.specs.Shown.{wall_of, walls_of};
+ghost use Rattle.scatter_diagram.specs.Shown.{wall_of};
 ghost use Rattle.scatter_diagram.specs.Stopped.{cause_of, stop_of};
 ghost use Rattle.scatter_text.specs.DiagramText.{row_text, IsWallText, AreWallTexts, cause_word, closing_text, IsDiagramText};
 ghost use Rattle.scatter_text.specs.PrintedRows.{row_of, IsHeading, Continues, ContinuesSome, ContinuesRatio};
@@ -121,20 +121,26 @@ fn push_wall(
     push_rows(text, rows.as_slice(), vars)
 }
 
-/// Appends the walls under this word, in their order.
-fn push_walls(
-    text: &mut String,
-    alloc: Global,
-    word: &str,
-    walls: &[Wall],
-    vars: usize,
-) -> Result<(), AllocError>
+/// Appends the lines of a diagram, in their order.
+fn push_lines(text: &mut String, alloc: Global, e: &Diagram, vars: usize) -> Result<(), AllocError>
     requires { vars ≤ most_variables }
     ensures { OnOk result (ContinuesSome text.old text.new
-        (AreWallTexts word.now vars (walls_of walls.now))) }
+        (AreWallTexts (codes "line") vars e.now.diagram.initial)) }
 {
-    for wall in walls {
-        push_wall(text, alloc, word, wall, vars)?;
+    for i in 0..e.line_count() {
+        push_wall(text, alloc, "line", e.line(i), vars)?;
+    }
+    Ok(())
+}
+
+/// Appends the rays of a diagram, in their order.
+fn push_rays(text: &mut String, alloc: Global, e: &Diagram, vars: usize) -> Result<(), AllocError>
+    requires { vars ≤ most_variables }
+    ensures { OnOk result (ContinuesSome text.old text.new
+        (AreWallTexts (codes "ray") vars e.now.diagram.rays)) }
+{
+    for i in 0..e.ray_count() {
+        push_wall(text, alloc, "ray", e.ray(i), vars)?;
     }
     Ok(())
 }
@@ -177,8 +183,8 @@ pub fn write_diagram(
 {
     let order = e.order();
     let mut text = format!(in alloc; "scatter 1\nvars {vars}\norder {order}\n")?;
-    push_walls(&mut text, alloc, "line", e.lines(), vars as usize)?;
-    push_walls(&mut text, alloc, "ray", e.rays(), vars as usize)?;
+    push_lines(&mut text, alloc, e, vars as usize)?;
+    push_rays(&mut text, alloc, e, vars as usize)?;
     push_closing(&mut text, stop)?;
     Ok(text.into_bytes())
 }

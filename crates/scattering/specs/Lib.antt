@@ -8,6 +8,7 @@ pub mod LocalProduct
 pub mod Plane
 pub mod Series
 pub mod Stops
+pub mod SupportingLine
 pub mod Tail
 pub mod Theta
 pub mod ThetaProduct

@@ -7,12 +7,12 @@ ghost use Rattle.plane_geom.specs.Places.{pair};
 ghost use Rattle.trunc_series.specs.Shown.{sum_of};
 ghost use Rattle.sample_walls.specs.LowFunctions.{is_low_function};
 
-use sample_walls::monomials::{ONE, XXY, XXYY, XY, XYY, Y};
-use sample_walls::{origin, square_axes, wall};
+use sample_walls::monomials::{ONE, X, XXY, XXYY, XY, XYY, Y};
+use sample_walls::{origin, place, square_axes, wall};
 use scatter_diagram::{Diagram, Initial, Wall, WallKind, cut_walls};
 use std::alloc::Global;
 use std::test::Fail;
-use trunc_series::Key;
+use trunc_series::{Exp, Key};
 
 // The lines and one ray.
 fn one_ray(
@@ -112,9 +112,43 @@ fn second_ray(alloc: Global) -> Result<bool, Fail> {
     Ok(e.ray_count() > 1 && goes(e.ray(1), WallKind::Outgoing, 1, 2))
 }
 
-fn lists(alloc: Global) -> Result<bool, Fail> {
+fn three_rays_copied(alloc: Global) -> Result<bool, Fail> {
     let e = completion(alloc)?;
-    Ok((e.lines().len(), e.rays().len()) == (2, 3))
+    Ok(e.copied_rays()?.len() == 3)
+}
+
+// Of five walls through the origin no two have one supporting line.
+fn five_runs(alloc: Global) -> Result<bool, Fail> {
+    let e = completion(alloc)?;
+    Ok(e.run_count() == 5 && e.along(0).len() == 1 && goes(&e.along(0)[0], WallKind::Line, 0, 1))
+}
+
+/// t2·x^-1
+const T2_BACK: Key = Key {
+    exp: Exp { a: -1, b: 0 },
+    powers: [0, 1, 0, 0, 0, 0, 0, 0],
+};
+
+// A line and one that goes the other way along it, from another point.
+fn opposite_lines(alloc: Global) -> Result<Diagram, Fail> {
+    let mut lines = Vec::new(alloc);
+    lines.push(wall(
+        alloc,
+        WallKind::Line,
+        origin(),
+        1,
+        0,
+        2,
+        &[(ONE, 1), (X, 1)],
+    )?)?;
+    let back = [(T2_BACK, 1), (ONE, 1)];
+    lines.push(wall(alloc, WallKind::Line, place(5, 0)?, -1, 0, 2, &back)?)?;
+    Ok(Diagram::from_walls(alloc, 2, lines, Vec::new(alloc))?)
+}
+
+fn opposite_lines_are_one_run(alloc: Global) -> Result<bool, Fail> {
+    let e = opposite_lines(alloc)?;
+    Ok(e.run_count() == 1 && e.along(0).len() == 2 && goes(&e.along(0)[0], WallKind::Line, 1, 0))
 }
 
 #[test]
@@ -122,7 +156,15 @@ fn walls_by_their_places(rt: HostRuntime) -> Result<(), Fail> {
     let alloc = rt.alloc();
     assert!(rt; second_line(alloc)?);
     assert!(rt; second_ray(alloc)?);
-    assert!(rt; lists(alloc)?);
+    assert!(rt; three_rays_copied(alloc)?);
+    Ok(())
+}
+
+#[test]
+fn walls_by_supporting_line(rt: HostRuntime) -> Result<(), Fail> {
+    let alloc = rt.alloc();
+    assert!(rt; five_runs(alloc)?);
+    assert!(rt; opposite_lines_are_one_run(alloc)?);
     Ok(())
 }
 

@@ -9,7 +9,7 @@ use Rattle.local_product.proofs.Local.{all-on, same-weight}
 use Rattle.local_product.proofs.product.weight_at.Goals as goal
 
 pub half_walls-requires : goal.half_walls-requires
-half_walls-requires c = all-on c.args.order (walls c.args.e.now.diagram) (point_of c.args.p.now) (walls_of c.as_slice.result.now) (ap walls_of c.as_slice.ensures.value ∙ c.in_ok-walls.ensures.walls)
+half_walls-requires c = all-on c.args.e.now.order c.args.order (walls c.args.e.now.diagram) c.in_ok-walls.ensures.proper (point_of c.args.p.now) c.args.p.now.reduced.below (walls_of c.as_slice.result.now) (ap walls_of c.as_slice.ensures.value ∙ c.in_ok-walls.ensures.walls)
 
 pub weight_of-requires-clause-functions : goal.weight_of-requires-clause-functions
 weight_of-requires-clause-functions c =
@@ -19,6 +19,6 @@ weight_of-requires-clause-functions c =
 pub returns : goal.returns
 returns c =
     subst (λ (n : ℕ). IfOk c.weight_of.result (λ w. w ≡ min n (2 ^ 126 + 1)))
-    (same-weight c.args.order (walls c.args.e.now.diagram) (point_of c.args.p.now) (walls_of c.as_slice.result.now) (ap walls_of c.as_slice.ensures.value ∙ c.in_ok-walls.ensures.walls)
+    (same-weight c.args.e.now.order c.args.order (walls c.args.e.now.diagram) c.in_ok-walls.ensures.proper (point_of c.args.p.now) c.args.p.now.reduced.below (walls_of c.as_slice.result.now) (ap walls_of c.as_slice.ensures.value ∙ c.in_ok-walls.ensures.walls)
     (halves_of c.as_slice-2.result.now) (ap halves_of c.as_slice-2.ensures.value ∙ c.in_ok-halves.ensures.halves))
     c.weight_of.ensures

@@ -1,25 +1,21 @@
-use Rattle.std.proofs.Common.{◌≡◌, ◌≤◌, ℕ, ℤ, pos, negsuc, zero, suc, refl, sym, subst, ap, ◌∙◌, arith, to_z, of_z}
+use Rattle.std.proofs.Common.{◌≡◌, ◌≤◌, ℕ, ℤ, pos, refl, sym, subst, ap, ◌∙◌, arith, to_z, of_z}
 use Rattle.std.specs.Prelude.{nat_abs, neg_ℤ, ◌-ℤ◌}
 use Rattle.std.specs.Int.{IsGcd}
 use Rattle.std.proofs.lemmas.Int.{ints}
 use mir.Syntax.{w32}
 use Rattle.plane_geom.proofs.Casts.{back32}
+use Rattle.crossing_theory.proofs.LocalRuns.{size-turned}
 use Rattle.scatter_diagram.proofs.wall.opposite.Goals as goal
-
-same-size : (a : ℤ) → nat_abs (neg_ℤ a) ≡ nat_abs a
-same-size (pos zero) = refl
-same-size (pos (suc n)) = refl
-same-size (negsuc n) = refl
 
 -- a number of a direction, turned round
 turned : (a : ℤ) → nat_abs a ≤ 4096 → to_z w32 (of_z w32 (pos 0 -ℤ to_z w32 (of_z w32 a))) ≡ neg_ℤ a
-turned a h = ap (λ z. to_z w32 (of_z w32 (pos 0 -ℤ z))) (back32 a h) ∙ ap (λ z. to_z w32 (of_z w32 z)) (minus a) ∙ back32 (neg_ℤ a) (rw (same-size a) h)
+turned a h = ap (λ z. to_z w32 (of_z w32 (pos 0 -ℤ z))) (back32 a h) ∙ ap (λ z. to_z w32 (of_z w32 z)) (minus a) ∙ back32 (neg_ℤ a) (rw (size-turned a) h)
   where
     minus : (a : ℤ) → pos 0 -ℤ a ≡ neg_ℤ a
     minus a = omega (arith, ints)
 
 size : (a : ℤ) → nat_abs a ≤ 4096 → nat_abs (to_z w32 (of_z w32 (pos 0 -ℤ to_z w32 (of_z w32 a)))) ≡ nat_abs a
-size a h = ap nat_abs (turned a h) ∙ same-size a
+size a h = ap nat_abs (turned a h) ∙ size-turned a
 
 pub invariant_of-result : goal.invariant_of-result
 invariant_of-result c =

@@ -1,11 +1,7 @@
-use Rattle.std.proofs.Common.{◌≡◌, ◌<◌, length}
-use Rattle.std.proofs.lemmas.List.{length-map}
-use Rattle.scattering.specs.Wall.{Line, Wall}
-use Rattle.scatter_diagram.specs.Shown.{wall_of}
-use Rattle.scatter_diagram.proofs.Walls.{wall-at}
+use Rattle.scatter_diagram.proofs.Stored.{line-kind}
 use Rattle.scatter_diagram.proofs.diagram.Diagram.line.Goals as goal
 
 pub returns-clause-line : goal.returns-clause-line
 returns-clause-line c =
-    let l : c.args.i < length c.self.inside.lines.items = let h = rw (← c.self.view_is) at c.requires in rw (length-map c.self.inside.lines.items wall_of) at h in
-    wall-at (λ (w : Wall). w.kind ≡ Line) c.self.inside.lines.items c.args.i c.index.result.now l c.index.ensures c.self.invariant.lines.lines
+    let e = c.self.inside in
+    line-kind e.order e.line_count e.walls.items e.bounds.items e.positions.items c.self.invariant c.args.i c.index.result.now c.index-2.result.now (rw (← c.self.view_is) at c.requires) c.index.ensures c.index-2.ensures
