@@ -18,6 +18,8 @@ use Rattle.trunc_series.specs.Shown.{key_of, sum_of}
 use Rattle.trunc_series.proofs.Coefficients.{Apart, coef-none_at, add-zero}
 use Rattle.trunc_series.proofs.Terms.{at, sum_of-drop}
 use Rattle.vertex_lie.specs.Shown.{coefficient_of, lie_of}
+use Rattle.vertex_lie.specs.declared.leading_part.Axis.{Axis}
+use Rattle.vertex_lie.specs.declared.leading_part.Axis.TheVariants as axis
 use Rattle.vertex_lie.specs.Leading.{turn, AreQuotients}
 
 pub zero-left : (x y d : ℤ) → pos 1 ≤ℤ d → pos 0 *ℤ x ≡ y *ℤ d → y ≡ pos 0
@@ -94,9 +96,14 @@ module _ (D : Exp → ℤ) where
   begun-all a out i l h = subst (AreQuotients D (sum_of a)) (append-nil (lie_of out)) (h [] (subst (λ (x : List (CodeKey × ℤ)). AreQuotients D (sum_of x) []) (sym (drop_all i a l)) tt))
 
 -- where the exponent isn't (0, 0), the determinant isn't 0
-pub turn-nonzero : (e : Exp) → e ≢ origin → turn e ≢ pos 0
-turn-nonzero e n t = go (int_eq e.b (pos 0)) refl
+pub turn-nonzero : (axis : Axis) (e : Exp) → e ≢ origin → turn axis e ≢ pos 0
+turn-nonzero axis.X e n t = go (int_eq e.b (pos 0)) refl
   where
     go : (b : Bool) → int_eq e.b (pos 0) ≡ b → ⊥
     go true q = let s : e.a ≡ pos 0 = rw q at t in let r : e.b ≡ pos 0 = grind (arith, ints) in n (λ i. record { a = s i; b = r i })
     go false q = let s : neg_ℤ e.b ≡ pos 0 = rw q at t in absurd (grind (arith, ints))
+turn-nonzero axis.Y e n t = go (int_eq e.a (pos 0)) refl
+  where
+    go : (b : Bool) → int_eq e.a (pos 0) ≡ b → ⊥
+    go true q = let s : neg_ℤ e.b ≡ pos 0 = rw q at t in let r : e.a ≡ pos 0 = grind (arith, ints) in let v : e.b ≡ pos 0 = omega (arith, ints, s) in n (λ i. record { a = r i; b = v i })
+    go false q = let s : e.a ≡ pos 0 = rw q at t in absurd (grind (arith, ints))

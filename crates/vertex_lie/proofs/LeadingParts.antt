@@ -18,7 +18,8 @@ use Rattle.trunc_series.specs.Reduced.{IsKeptAs}
 use Rattle.trunc_series.proofs.Coefficients.{coef-has, has-coef, apart-rising}
 use Rattle.trunc_series.proofs.Exact.{own, exact-same}
 use Rattle.trunc_series.proofs.PowerLaws.{reduced-keys}
-use Rattle.vertex_lie.specs.declared.leading_part.Axis.TheVariants.{X as AxisX, Y as AxisY}
+use Rattle.vertex_lie.specs.declared.leading_part.Axis.TheVariants as axis
+use Rattle.vertex_lie.specs.declared.leading_part.Reading.TheVariants.{X as OfX, RestOfY}
 use Rattle.vertex_lie.specs.Shown.{IsElement}
 use Rattle.vertex_lie.specs.Leading.{turn, IsLeading, IsLeadingPart, read_from, AreQuotients, IsDividend}
 use Rattle.vertex_lie.proofs.OfKey.{distinct-rising}
@@ -32,7 +33,7 @@ vanishes x den num e n h q =
     cancel den x (pos 0) n
     (ring ints_ring (den ∷ x ∷ []) (X :* Y) (Y :* X) refl ∙ h ∙ ap (λ y. num *ℤ y) q ∙ ring ints_ring (num ∷ den ∷ []) (X :* nought) (Y :* nought) refl)
 
-nothing : (x den num e : ℤ) → x ≡ pos 0 → e ≡ pos 0 → x *ℤ den ≡ num *ℤ e
+pub nothing : (x den num e : ℤ) → x ≡ pos 0 → e ≡ pos 0 → x *ℤ den ≡ num *ℤ e
 nothing x den num e p q = ap (λ y. y *ℤ den) p ∙ ring ints_ring (den ∷ num ∷ []) (nought :* X) (Y :* nought) refl ∙ ap (λ y. num *ℤ y) (sym q)
 
 -- what is read from the image of one axis tells that of the other
@@ -76,23 +77,23 @@ picked true true false x y h k = omega (arith, ints, k)
 picked true false q x y h k = omega (arith, ints, h)
 
 module _ (l m : ℕ) (x y : Sum) (v : IsValid l x) (w : IsValid m y) (n : ℕ) (r : Sum) (h : Lie)
-    (made : (o : ℕ) (f g : Sum) → IsKeptAs Wrapping o (read_from n AxisX x) f → IsKeptAs Wrapping o (read_from n AxisY y) g → IsKeptAs Wrapping o r (f ++ g)) where
+    (made : (o : ℕ) (f g : Sum) → IsKeptAs Wrapping o (read_from n OfX x) f → IsKeptAs Wrapping o (read_from n RestOfY y) g → IsKeptAs Wrapping o r (f ++ g)) where
   read : Sum
-  read = read_from n AxisX x ++ read_from n AxisY y
+  read = read_from n OfX x ++ read_from n RestOfY y
 
-  reduced : IsKeptAs Wrapping n r (read_from n AxisX x ++ read_from n AxisY y)
-  reduced = made n _ _ (own n _ (read-series n AxisX l x v.series) (read-small n AxisX x v.small)) (own n _ (read-series n AxisY m y w.series) (read-small n AxisY y w.small))
+  reduced : IsKeptAs Wrapping n r (read_from n OfX x ++ read_from n RestOfY y)
+  reduced = made n _ _ (own n _ (read-series n OfX l x v.series) (read-small n OfX x v.small)) (own n _ (read-series n RestOfY m y w.series) (read-small n RestOfY y w.small))
 
-  both : (k : Key) → coef (read_from n AxisX x ++ read_from n AxisY y) k ≡ cond (is_shown n AxisX k) (coef x (key_mul k (z axis_x))) (pos 0) +ℤ cond (is_shown n AxisY k) (coef y (key_mul k (z axis_y))) (pos 0)
-  both k = coef-append (read_from n AxisX x) (read_from n AxisY y) k ∙ ap (λ c. c +ℤ coef (read_from n AxisY y) k) (read-coef n AxisX x k) ∙ ap (λ c. cond (is_shown n AxisX k) (coef x (key_mul k (z axis_x))) (pos 0) +ℤ c) (read-coef n AxisY y k)
+  both : (k : Key) → coef (read_from n OfX x ++ read_from n RestOfY y) k ≡ cond (is_shown n OfX k) (coef x (key_mul k (z axis_x))) (pos 0) +ℤ cond (is_shown n RestOfY k) (coef y (key_mul k (z axis_y))) (pos 0)
+  both k = coef-append (read_from n OfX x) (read_from n RestOfY y) k ∙ ap (λ c. c +ℤ coef (read_from n RestOfY y) k) (read-coef n OfX x k) ∙ ap (λ c. cond (is_shown n OfX k) (coef x (key_mul k (z axis_x))) (pos 0) +ℤ c) (read-coef n RestOfY y k)
 
   small-coef : (o : ℕ) (f : Sum) → IsValid o f → (k : Key) → nat_abs (coef f k) < 2 ^ 127
   small-coef o f u k = coef-has (λ c. nat_abs c < 2 ^ 127) f (omega arith) (apart-rising f u.series.rises) u.small k
 
-  small : (k : Key) → nat_abs (coef (read_from n AxisX x ++ read_from n AxisY y) k) < 2 ^ 127
+  small : (k : Key) → nat_abs (coef (read_from n OfX x ++ read_from n RestOfY y) k) < 2 ^ 127
   small k = rw (both k) (picked (degree k == n) (int_eq k.exp.b (pos 0)) (int_eq k.exp.a (pos 0)) (coef x (key_mul k (z axis_x))) (coef y (key_mul k (z axis_y))) (small-coef l x v _) (small-coef m y w _))
 
-  same : Same r (read_from n AxisX x ++ read_from n AxisY y)
+  same : Same r (read_from n OfX x ++ read_from n RestOfY y)
   same = exact-same n r _ reduced small
 
   any : (f : Sum) → Every (λ t. Unit {0}) f
@@ -100,7 +101,7 @@ module _ (l m : ℕ) (x y : Sum) (v : IsValid l x) (w : IsValid m y) (n : ℕ) (
   any (t ∷ f) = (tt, any f)
 
   keys : Every (λ t. (degree t.0 ≡ n) × (t.0.exp ≢ origin)) r
-  keys = reduced-keys Wrapping (λ k. (degree k ≡ n) × (k.exp ≢ origin)) n r _ reduced (Every-append (λ t. (degree t.0 ≡ n) × (t.0.exp ≢ origin)) _ _ (read-keys n AxisX x (any x)) (read-keys n AxisY y (any y)))
+  keys = reduced-keys Wrapping (λ k. (degree k ≡ n) × (k.exp ≢ origin)) n r _ reduced (Every-append (λ t. (degree t.0 ≡ n) × (t.0.exp ≢ origin)) _ _ (read-keys n OfX x (any x)) (read-keys n RestOfY y (any y)))
 
   smalls : Every (λ t. nat_abs t.1 < 2 ^ 127) r
   smalls = has-coef (λ c. nat_abs c < 2 ^ 127) r (omega arith) (apart-rising r reduced.series.rises) (λ k. rw (same k) (small k))
@@ -112,12 +113,12 @@ module _ (l m : ℕ) (x y : Sum) (v : IsValid l x) (w : IsValid m y) (n : ℕ) (
       both_of [] k s = tt
       both_of (t ∷ f) k s = ((k.0.1, s.0), both_of f k.1 s.1)
 
-  module _ (q : AreQuotients turn r h) (ratios : Every (λ t. IsRatio t.1) h) where
+  module _ (q : AreQuotients (turn axis.X) r h) (ratios : Every (λ t. IsRatio t.1) h) where
     pub part-element : IsElement h
     part-element = record {
-      rises = quotients-rise turn r h q reduced.series.rises;
-      exponents = quotients-keys turn (λ k. k.exp ≢ origin) r h q (Every-implies (λ (t : Term). (degree t.0 ≡ n) × (t.0.exp ≢ origin)) (λ t. t.0.exp ≢ origin) r (λ t e. e.1) keys);
-      nonzero = quotients-nonzero turn r h q ratios reduced.series.nonzero;
+      rises = quotients-rise (turn axis.X) r h q reduced.series.rises;
+      exponents = quotients-keys (turn axis.X) (λ k. k.exp ≢ origin) r h q (Every-implies (λ (t : Term). (degree t.0 ≡ n) × (t.0.exp ≢ origin)) (λ t. t.0.exp ≢ origin) r (λ t e. e.1) keys);
+      nonzero = quotients-nonzero (turn axis.X) r h q ratios reduced.series.nonzero;
       ratios = ratios;
     }
 
@@ -126,7 +127,7 @@ module _ (l m : ℕ) (x y : Sum) (v : IsValid l x) (w : IsValid m y) (n : ℕ) (
       at_both k d =
           told k.exp.a k.exp.b (coef x (key_mul k (z axis_x))) (coef y (key_mul k (z axis_y))) (ratio_at h k).num (ratio_at h k).den (ratio_at h0 k).num (ratio_at h0 k).den
           (positive-not (ratio_at h0 k).den (ratio-is h0 e.ratios k).below) (e.at_x k d) (e.at_y k d) (int_eq k.exp.b (pos 0)) (int_eq k.exp.a (pos 0)) refl refl
-          (quotients-ratio turn r h q (apart-rising r reduced.series.rises) k
+          (quotients-ratio (turn axis.X) r h q (apart-rising r reduced.series.rises) k
           ∙ ap (λ c. c *ℤ (ratio_at h k).den) (same k ∙ both k ∙ ap (λ (t : Bool). cond (t && not (int_eq k.exp.b (pos 0))) (coef x (key_mul k (z axis_x))) (pos 0) +ℤ cond (t && (int_eq k.exp.b (pos 0) && not (int_eq k.exp.a (pos 0)))) (coef y (key_mul k (z axis_y))) (pos 0)) (equal d)))
         where
           equal : degree k ≡ n → (degree k == n) ≡ true
@@ -137,7 +138,7 @@ module _ (l m : ℕ) (x y : Sum) (v : IsValid l x) (w : IsValid m y) (n : ℕ) (
         ratios = ratios;
         nonzero = part-element.nonzero;
         distinct = distinct-rising h part-element.rises;
-        degrees = quotients-keys turn (λ k. (degree k ≡ n) × (k.exp ≢ origin)) r h q keys;
+        degrees = quotients-keys (turn axis.X) (λ k. (degree k ≡ n) × (k.exp ≢ origin)) r h q keys;
         at_x = λ k d. (at_both k d).0;
         at_y = λ k d. (at_both k d).1;
       }

@@ -3,6 +3,7 @@ pub mod Arranged
 pub mod ReadTerms
 pub mod Divided
 pub mod LeadingParts
+pub mod OneImage
 pub mod EqualRatios
 pub mod RunningSums
 pub mod PairProducts

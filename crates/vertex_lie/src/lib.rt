@@ -13,5 +13,5 @@ mod shared;
 pub use element::LieElement;
 pub use fault::LieFault;
 pub use laws::{brackets_are_of_sums, elements_are_determined, leading_parts_are_corrections};
-pub use leading_part::leading;
+pub use leading_part::{Axis, leading, leading_from};
 pub use logarithm::wall_log;

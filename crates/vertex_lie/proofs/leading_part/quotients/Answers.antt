@@ -13,15 +13,15 @@ quotient-requires-clause-c c = (Every-at IsDividend c.args.terms.now c.loop-t.t-
 pub quotient-requires-clause-nonzero : goal.quotient-requires-clause-nonzero
 quotient-requires-clause-nonzero c z =
     let f : FitsSigned w128 c.determinant.result = search rules in
-    turn-nonzero (key_of (at c.args.terms.now c.loop-t.t-index).0).exp (Every-at IsDividend c.args.terms.now c.loop-t.t-index (omega arith) c.requires).0
+    turn-nonzero c.args.axis (key_of (at c.args.terms.now c.loop-t.t-index).0).exp (Every-at IsDividend c.args.terms.now c.loop-t.t-index (omega arith) c.requires).0
     (sym c.determinant.ensures.value ∙ sym (to_z-of_z w128 c.determinant.result f) ∙ z)
 
 pub loop-t-preserved : goal.loop-t-preserved
 loop-t-preserved c =
     let f : FitsSigned w128 c.determinant.result = search rules in
     rw c.in_ok-push.ensures.items
-    (begun-more turn c.args.terms.now c.loop-t.out.items c.loop-t.t-index (omega arith) c.quotient.result
+    (begun-more (turn c.args.axis) c.args.terms.now c.loop-t.out.items c.loop-t.t-index (omega arith) c.quotient.result
     (read-quotient c.quotient.result.num c.quotient.result.den (at c.args.terms.now c.loop-t.t-index).1 _ _ (to_z-of_z w128 c.determinant.result f ∙ c.determinant.ensures.value) c.quotient.ensures) c.loop-t.invariant)
 
 pub returns : goal.returns
-returns c = begun-all turn c.args.terms.now c.loop-t.out.items c.loop-t.t-index (omega arith) c.loop-t.invariant
+returns c = begun-all (turn c.args.axis) c.args.terms.now c.loop-t.out.items c.loop-t.t-index (omega arith) c.loop-t.invariant

@@ -16,6 +16,6 @@ loop-t-preserved c =
     let h : c.loop-t.t-index < length c.args.terms.now = omega arith in
     let f : FitsSigned w128 (at c.args.terms.now c.loop-t.t-index).1 = fits_signed_from_abs w128 _ (Every-at (λ t. nat_abs t.1 < 2 ^ 127) c.args.terms.now c.loop-t.t-index h c.requires.small) in
     elim c.if-shows.branch [
-      | then-shows+in_ok-push w ↦ rw (w.out-is, w.in_ok-push.ensures.items, to_z-of_z w128 (at c.args.terms.now c.loop-t.t-index).1 f) (step-shown c.args.degree c.args.axis c.loop-t.out.items c.args.terms.now c.loop-t.t-index h c.over-key.result c.over-key.ensures (sym c.shows.ensures ∙ w.if-shows.true) ∙ c.loop-t.invariant)
-      | else-shows w ↦ rw w.out-is (step-other c.args.degree c.args.axis c.loop-t.out.items c.args.terms.now c.loop-t.t-index h c.over-key.result c.over-key.ensures (sym c.shows.ensures ∙ w.if-shows.false) ∙ c.loop-t.invariant)
+      | then-shows+in_ok-push w ↦ rw (w.out-is, w.in_ok-push.ensures.items, to_z-of_z w128 (at c.args.terms.now c.loop-t.t-index).1 f) (step-shown c.args.degree c.args.reading c.loop-t.out.items c.args.terms.now c.loop-t.t-index h c.over-key.result c.over-key.ensures (sym c.shows.ensures ∙ w.if-shows.true) ∙ c.loop-t.invariant)
+      | else-shows w ↦ rw w.out-is (step-other c.args.degree c.args.reading c.loop-t.out.items c.args.terms.now c.loop-t.t-index h c.over-key.result c.over-key.ensures (sym c.shows.ensures ∙ w.if-shows.false) ∙ c.loop-t.invariant)
     ]

@@ -1,0 +1,9 @@
+pub mod Totals
+pub mod Choices
+pub mod Masses
+pub mod Majorants
+pub mod Exponents
+pub mod Rows
+pub mod Tables
+pub mod Crossed
+pub mod Terms

@@ -1,0 +1,4 @@
+pub mod Masses
+pub mod Rows
+pub mod Tables
+pub mod Bounds
