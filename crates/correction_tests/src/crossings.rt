@@ -28,7 +28,7 @@ fn level() -> Result<Direction, &'static str>
 }
 
 // 1 + t1*x
-fn line(alloc: Global) -> Result<Series, AllocError>
+pub fn line(alloc: Global) -> Result<Series, AllocError>
     ensures order { IfOk result (λ s. s.order ≡ 2) }
     ensures terms { IfOk result (λ s. s.terms ≡ line_terms (pos 1)) }
 {

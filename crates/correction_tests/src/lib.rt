@@ -2,10 +2,14 @@
 #![tactic(auto)]
 
 #[cfg(test)]
+mod bounds;
+#[cfg(test)]
 mod crossings;
 #[cfg(test)]
 mod joints;
 #[cfg(test)]
 mod lie;
+#[cfg(test)]
+mod powers;
 #[cfg(test)]
 mod products;

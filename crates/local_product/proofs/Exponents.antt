@@ -1,16 +1,13 @@
 -- Exponents of images: where those of functions are within 64 times the degree, those of the image of z^m are within that of m.
-use Rattle.std.proofs.Common.{◌≡◌, ◌≢◌, ℕ, zero, suc, ◌*◌, ◌+◌, ◌≤◌, ◌^◌, sym, ap, ◌∙◌, List, [], ◌∷◌, arith}
+use Rattle.std.proofs.Common.{◌≡◌, ◌≢◌, ℕ, zero, suc, ◌*◌, ◌+◌, ◌≤◌, ◌^◌, sym, ◌∙◌, List, [], ◌∷◌, arith}
 use Rattle.std.specs.Prelude.{ℤ, pos, negsuc, ◌+ℤ◌, ◌-ℤ◌, ◌*ℤ◌, neg_ℤ, nat_abs, not}
-use Rattle.std.specs.Int.{int_min}
 use Rattle.std.proofs.lemmas.Int.{ints}
 use Rattle.scattering.specs.Collections.{Every}
-use Rattle.scattering.specs.Series.{Exp, Key, Sum, degree, det, key_eq, key_mul, origin, unit, z, rest, minus, absolute, coef, mul, pow, powers_to, inverse, power, geometric, monomial, IsSeries}
-use Rattle.scattering.specs.LocalProduct.{Half, cross, cross_majorant, carry, carry_majorant}
+use Rattle.scattering.specs.Series.{Exp, Key, Sum, degree, det, key_eq, key_mul, origin, unit, z, rest, minus, absolute, coef, mul, pow, powers_to, inverse, power, monomial, IsSeries}
+use Rattle.scattering.specs.LocalProduct.{Half, cross, carry}
 use Rattle.scattering.proofs.DistinctKeys.{own-coefficients, series-distinct}
 use Rattle.scattering.proofs.Lists.{Every-append, Every-filter}
 use Rattle.scattering.proofs.ShiftedSums.{degree-mul}
-use Rattle.trunc_series.specs.Arithmetic.{limit}
-use Rattle.trunc_series.specs.Capped.{IsMajorantOf}
 use Rattle.trunc_series.specs.Shown.{Seen, IsSeriesOf, HasNearTerms}
 use Rattle.local_product.specs.Shown.{IsUnit}
 use Rattle.trunc_series.proofs.PowerLaws.{mul-every, key-from}
@@ -71,27 +68,13 @@ carry-around k (c ∷ hs) m g h i = carry-around k hs m _ h.1 (cross-around k c.
 pub monomial-around : (m : Exp) → AreAround m (monomial (z m))
 monomial-around m = (own m, tt)
 
--- ---- majorants
+-- ---- absolute values
 
 pub absolute-around : (f : Sum) → AreAround origin f → AreAround origin (absolute f)
 absolute-around [] h = tt
 absolute-around (t ∷ f) h = (h.0, absolute-around f h.1)
 
-geometric-around : (k : ℕ) (f : Sum) → AreAround origin f → AreAround origin (geometric k f)
-geometric-around k f h = powers_to-around k (absolute (rest f)) k (absolute-around (rest f) (Every-filter (λ t. Around origin t.0) (λ t. not (key_eq t.0 unit)) f h))
-
-majorant-around : (k : ℕ) (d : Exp) (f : Sum) (m : Exp) (g : Sum) → AreAround origin f → AreAround m g → AreAround m (cross_majorant k d f g)
-majorant-around k d f m [] h i = tt
-majorant-around k d f m (t ∷ g) h i =
-    Every-append (λ t. Around m t.0) (mul k (t ∷ []) (pow k (geometric k f) (nat_abs (det d t.0.exp)))) (cross_majorant k d f g)
-    (mul-every (Around m) (Around origin) (Around m) (around-mul m) k (t ∷ []) (pow k (geometric k f) (nat_abs (det d t.0.exp))) (i.0, tt) (pow-around k (geometric k f) (nat_abs (det d t.0.exp)) (geometric-around k f h)))
-    (majorant-around k d f m g h i.1)
-
-pub carry_majorant-around : (k : ℕ) (hs : List Half) (m : Exp) (g : Sum) → Every (λ h. AreAround origin h.wall.function) hs → AreAround m g → AreAround m (carry_majorant k hs g)
-carry_majorant-around k [] m g h i = i
-carry_majorant-around k (c ∷ hs) m g h i = carry_majorant-around k hs m _ h.1 (majorant-around k c.wall.dir c.wall.function m g h.0 i)
-
--- ---- series and majorants
+-- ---- series
 
 module _ (P : Key → Type 0) (f g : Sum) (series : (n : ℕ) × IsSeries n f) (none : (x : Key) → coef g x ≡ pos 0 → coef f x ≡ pos 0) (all : Every (λ t. P t.0) g) where
   of-keys : (h : Sum) → Every (λ t. coef f t.0 ≡ t.1) h → Every (λ t. t.1 ≢ pos 0) h → Every (λ t. P t.0) h
@@ -104,9 +87,6 @@ module _ (P : Key → Type 0) (f g : Sum) (series : (n : ℕ) × IsSeries n f) (
 
 pub series-around : (k : ℕ) (m : Exp) (s : Seen) (f : Sum) → IsSeriesOf s k f → AreAround m f → AreAround m s.terms
 series-around k m s f h a = keys-from (Around m) s.terms f (k, h.series) (λ x e. h.same x ∙ e) a
-
-pub majorant-of-around : (k : ℕ) (m : Exp) (s : Seen) (f : Sum) → IsMajorantOf s k f → AreAround m f → AreAround m s.terms
-majorant-of-around k m s f h a = keys-from (Around m) s.terms f (k, h.series) (λ x e. h.capped x ∙ ap (λ c. int_min c limit) e) a
 
 close : (x m : ℤ) (d : ℕ) → nat_abs m ≤ 1 → d ≤ 24 → nat_abs (x -ℤ m) ≤ 64 * d → nat_abs x ≤ 2 ^ 16
 close x m d u l h = omega (arith, ints, u, l, h)

@@ -1,76 +1,166 @@
--- What the half-walls of the walls through a point make of both axes is what all walls do.
-use Rattle.std.proofs.Common.{◌≡◌, ℕ, ◌+◌, ◌<◌, ◌≤◌, refl, sym, subst, ap, ◌∙◌, Bool, true, false, cond, List, [], ◌∷◌, ◌++◌, length, get_or, take, arith, inl}
-use Rattle.std.specs.Prelude.{IsTrue, pos, ◌≤ℤ◌, flat_map}
-use Rattle.std.proofs.lemmas.List.{append-nil, take_all}
-use Rattle.scattering.specs.Collections.{Every, In}
-use Rattle.scattering.specs.Series.{Exp, monomial, z}
+-- The half-walls of the walls through a point, run by run: only runs whose line holds the point have any.
+use Rattle.std.proofs.Common.{◌≡◌, ℕ, zero, suc, ◌+◌, ◌<◌, ◌≤◌, refl, sym, subst, ap, ◌∙◌, Bool, true, false, cond, List, [], ◌∷◌, ◌++◌, length, get_or, take, arith, inl}
+use Rattle.std.specs.Prelude.{pos, ◌≤ℤ◌, flat_map}
+use Rattle.std.proofs.lemmas.Grind.{flat_map-append}
+use Rattle.std.proofs.lemmas.List.{append-nil, take_more, take_all}
+use Rattle.scattering.specs.Collections.{Every}
 use Rattle.scattering.specs.Plane.{Point}
-use Rattle.scattering.specs.SupportingLine.{by_line, runs, supporting_line, line_holds}
-use Rattle.scattering.specs.Wall.{Wall, IsWall, is_on, cut_wall, cut_walls}
-use Rattle.scattering.proofs.Lists.{Every-at, map-append}
-use Rattle.crossing_theory.proofs.Runs.{In-place}
-use Rattle.crossing_theory.proofs.LiveWalls.{filter-append}
-use Rattle.crossing_theory.proofs.LocalRuns.{half_walls-sorted, IsRun, runs-are, run-off}
-use Rattle.crossing_theory.proofs.SupportingLines.{runs-more, runs-are_all}
+use Rattle.scattering.specs.SupportingLine.{by_line, line_holds}
+use Rattle.scattering.specs.Wall.{Wall, IsWall, is_on, walls}
 use Rattle.scattering.specs.ActivePoint.{walls_on}
-use Rattle.scattering.specs.LocalProduct.{Half, half_walls, carry, image, weight}
+use Rattle.scattering.specs.LocalProduct.{Half, halves, half_walls}
+use Rattle.crossing_theory.proofs.LocalRuns.{half_walls-sorted, IsRun, runs-are, run-off}
+use Rattle.crossing_theory.proofs.SupportingLines.{runs-are_all}
+use Rattle.scatter_diagram.specs.Listed.{SeenDiagram}
 use Rattle.scatter_diagram.specs.declared.wall.Wall.{Wall as CodeWall}
-use Rattle.scatter_diagram.specs.Proper.{IsTame}
 use Rattle.scatter_diagram.specs.Shown.{wall_of, walls_of}
-use Rattle.local_product.specs.Shown.{majorants_mass}
-use Rattle.local_product.proofs.LowDegrees.{local, image-local, weight-local}
+use Rattle.scattering.proofs.Lists.{Every-append, map-append}
+use Rattle.local_product.specs.declared.wall_tables.WallTables.{WallTables}
+use Rattle.local_product.specs.declared.run_line.RunLine.{RunLine}
+use Rattle.local_product.specs.RunLines.{seen_line, IsLineOf, IsLineOfFirst, AreLinesOf}
+use Rattle.local_product.specs.Tabled.{TabledRun, AreTablesOf, tabled_walls, tabled_runs, HasTables}
 
-on-cut : (k : ℕ) (ws : List Wall) (p : Point) → Every (λ w. IsTrue (is_on w p)) (local k p ws)
-on-cut k [] p = tt
-on-cut k (w ∷ ws) p = go (is_on w p) refl (on-cut k ws p)
+-- what is so at each place is so at one of them
+pub Every-place : {A : Type 0} (P : A → Type 0) (xs : List A) (i : ℕ) (x : A) → i < length xs → x ≡ get_or xs i x → Every P xs → P x
+Every-place P [] i x l e h = absurd (omega (arith, l))
+Every-place P (y ∷ ys) zero x l e h = subst P (sym e) h.0
+Every-place P (y ∷ ys) (suc i) x l e h = Every-place P ys i x (omega (arith, l)) e h.1
+
+-- one more of a list whose parts are put together
+pub joined-more : {A B : Type 0} (f : A → List B) (xs : List A) (i : ℕ) (x : A) → i < length xs → x ≡ get_or xs i x → flat_map f (take (i + 1) xs) ≡ flat_map f (take i xs) ++ f x
+joined-more f xs i x l e =
+    ap (flat_map f) (take_more xs i x l ∙ ap (λ y. take i xs ++ y ∷ []) (sym e))
+    ∙ flat_map-append f (take i xs) (x ∷ [])
+    ∙ ap (λ r. flat_map f (take i xs) ++ r) (append-nil (f x))
+
+append-assoc : {A : Type 0} (xs ys zs : List A) → (xs ++ ys) ++ zs ≡ xs ++ (ys ++ zs)
+append-assoc [] ys zs = refl
+append-assoc (x ∷ xs) ys zs = ap (λ r. x ∷ r) (append-assoc xs ys zs)
+
+-- ---- walls and runs off the point
+
+abbrev pub wall_halves : Point → WallTables → List Half
+wall_halves p t = halves p (wall_of t.wall.now)
+
+abbrev pub run_halves : Point → TabledRun → List Half
+run_halves p r = flat_map (halves p) (tabled_walls r.items)
+
+pub halves-off : (p : Point) (w : Wall) → is_on w p ≡ false → halves p w ≡ []
+halves-off p w e = rw e refl
+
+halves-on : (p : Point) (ws : List Wall) → flat_map (halves p) (walls_on ws p) ≡ flat_map (halves p) ws
+halves-on p [] = refl
+halves-on p (w ∷ ws) = go (is_on w p) refl (halves-on p ws)
   where
-    go : (b : Bool) → is_on w p ≡ b → Every (λ w. IsTrue (is_on w p)) (local k p ws) → Every (λ w. IsTrue (is_on w p)) (cut_walls k (cond b (w ∷ walls_on ws p) (walls_on ws p)))
-    go true e h = (e, h)
-    go false e h = h
+    go : (b : Bool) → is_on w p ≡ b → flat_map (halves p) (walls_on ws p) ≡ flat_map (halves p) ws → flat_map (halves p) (cond b (w ∷ walls_on ws p) (walls_on ws p)) ≡ halves p w ++ flat_map (halves p) ws
+    go true e h = ap (λ r. halves p w ++ r) h
+    go false e h = h ∙ ap (λ r. r ++ flat_map (halves p) ws) (sym (halves-off p w e))
 
-module _ (n k : ℕ) (ws : List Wall) (proper : Every (IsWall n) ws) (p : Point) (one : pos 1 ≤ℤ p.w) (us : List Wall) (is : us ≡ local k p (by_line ws)) where
-  pub all-on : Every (λ w. IsTrue (is_on w p)) us
-  all-on = subst (Every (λ w. IsTrue (is_on w p))) (sym is) (on-cut k (by_line ws) p)
+-- ---- one wall more of a run
 
-  module _ (hs : List Half) (all : hs ≡ half_walls us p) where
-    pub same-image : (m : Exp) → carry k hs (monomial (z m)) ≡ image ws p k m
-    same-image m =
-        ap (λ (gs : List Half). carry k gs (monomial (z m))) all ∙ ap (λ (vs : List Wall). image vs p k m) is ∙ image-local k (by_line ws) p m
-        ∙ ap (λ (gs : List Half). carry k gs (monomial (z m))) (half_walls-sorted n p one ws proper)
+pub tabled-halves : (p : Point) (ts : List WallTables) → flat_map (halves p) (tabled_walls ts) ≡ flat_map (wall_halves p) ts
+tabled-halves p [] = refl
+tabled-halves p (t ∷ ts) = ap (λ r. wall_halves p t ++ r) (tabled-halves p ts)
 
-    pub same-weight : majorants_mass k hs ≡ weight ws p k
-    same-weight =
-        ap (majorants_mass k) all ∙ ap (λ (vs : List Wall). weight vs p k) is ∙ weight-local k (by_line ws) p
-        ∙ ap (majorants_mass k) (half_walls-sorted n p one ws proper)
+module _ (p : Point) (ts : List WallTables) (i : ℕ) (t : WallTables) (l : i < length ts) (e : t ≡ get_or ts i t) (start old new : List Half) (h : old ≡ start ++ flat_map (wall_halves p) (take i ts)) where
+  pub wall-more : new ≡ old ++ wall_halves p t → new ≡ start ++ flat_map (wall_halves p) (take (i + 1) ts)
+  wall-more q =
+      q ∙ ap (λ r. r ++ wall_halves p t) h ∙ append-assoc start (flat_map (wall_halves p) (take i ts)) (wall_halves p t)
+      ∙ ap (λ r. start ++ r) (sym (joined-more (wall_halves p) ts i t l e))
 
-pub tame-walls : (ws : List CodeWall) → Every (λ w. Every IsTame w.function) (walls_of ws)
-tame-walls [] = tt
-tame-walls (w ∷ ws) = (w.proper.tame, tame-walls ws)
+  pub wall-off : is_on (wall_of t.wall.now) p ≡ false → new ≡ old → new ≡ start ++ flat_map (wall_halves p) (take (i + 1) ts)
+  wall-off o q = wall-more (q ∙ sym (ap (λ r. old ++ r) (halves-off p (wall_of t.wall.now) o) ∙ append-nil old))
 
--- ---- run by run
+-- ---- one run more
 
-local-append : (k : ℕ) (p : Point) (us vs : List Wall) → local k p (us ++ vs) ≡ local k p us ++ local k p vs
-local-append k p us vs = ap (cut_walls k) (filter-append (λ _. true) (λ w. is_on w p) us vs) ∙ map-append (cut_wall k) (walls_on us p) (walls_on vs p)
+run-at : (P : List Wall → Type 0) (rs : List TabledRun) (i : ℕ) (r : TabledRun) → i < length rs → r ≡ get_or rs i r → Every P (tabled_runs rs) → P (tabled_walls r.items)
+run-at P [] i r l e h = absurd (omega (arith, l))
+run-at P (q ∷ rs) zero r l e h = subst (λ (x : TabledRun). P (tabled_walls x.items)) (sym e) h.0
+run-at P (q ∷ rs) (suc i) r l e h = run-at P rs i r (omega (arith, l)) e h.1
 
--- one run more
-module _ (k n : ℕ) (ws : List Wall) (proper : Every (IsWall n) ws) (p : Point) (run : ℕ) (g seen new : List Wall) (l : run < length (runs ws)) (at : g ≡ get_or (runs ws) run g)
-    (h : seen ≡ local k p (flat_map (λ u. u) (take run (runs ws)))) where
-  next : local k p (flat_map (λ u. u) (take (run + 1) (runs ws))) ≡ local k p (flat_map (λ u. u) (take run (runs ws))) ++ local k p g
-  next = ap (local k p) (runs-more (runs ws) run g l at) ∙ local-append k p (flat_map (λ u. u) (take run (runs ws))) g
+module _ (e : SeenDiagram) (n : ℕ) (rs : List TabledRun) (are : AreTablesOf e n rs) (p : Point) (i : ℕ) (r : TabledRun) (l : i < length rs) (at : r ≡ get_or rs i r) (old new : List Half) (h : old ≡ flat_map (run_halves p) (take i rs)) where
+  pub run-some : 0 < length r.items
+  run-some = Every-place (λ (x : TabledRun). 0 < length x.items) rs i r l at are.some
 
-  pub with-run : new ≡ seen ++ local k p g → new ≡ local k p (flat_map (λ u. u) (take (run + 1) (runs ws)))
-  with-run e = e ∙ ap (λ r. r ++ local k p g) h ∙ sym next
+  pub run-tables : Every (HasTables n) r.items
+  run-tables = Every-place (λ (x : TabledRun). Every (HasTables n) x.items) rs i r l at are.tables
 
-  pub without-run : (us : List CodeWall) (u : CodeWall) → walls_of us ≡ g → 0 < length us → u ≡ get_or us 0 u → line_holds (supporting_line (wall_of u)) p ≡ false → new ≡ seen → new ≡ local k p (flat_map (λ u. u) (take (run + 1) (runs ws)))
-  without-run us u is s f e q =
-      let i : In (wall_of u) g = subst (In (wall_of u)) is (first us u s f) in
-      let r = subst (IsRun n) (sym at) (Every-at (IsRun n) (runs ws) (get_or (runs ws) run g) (runs-are n ws proper) (In-place (runs ws) run g l)) in
-      q ∙ h ∙ sym (next ∙ ap (λ r. local k p (flat_map (λ u. u) (take run (runs ws))) ++ cut_walls k r) (run-off n g p (wall_of u) r i e) ∙ append-nil _)
+  pub with-run : new ≡ old ++ run_halves p r → new ≡ flat_map (run_halves p) (take (i + 1) rs)
+  with-run q = q ∙ ap (λ x. x ++ run_halves p r) h ∙ sym (joined-more (run_halves p) rs i r l at)
+
+  pub without-run : (k : RunLine) → IsLineOfFirst r.items k → line_holds (seen_line k) p ≡ false → new ≡ old → new ≡ flat_map (run_halves p) (take (i + 1) rs)
+  without-run k s f q = with-run (q ∙ sym (ap (λ x. old ++ x) none ∙ append-nil old))
     where
-      first : (us : List CodeWall) (u : CodeWall) → 0 < length us → u ≡ get_or us 0 u → In (wall_of u) (walls_of us)
-      first [] u s f = absurd (omega (arith, s))
-      first (v ∷ us) u s f = inl (ap wall_of f)
+      off : (ts : List WallTables) → 0 < length ts → IsLineOfFirst ts k → IsRun e.order (tabled_walls ts) → walls_on (tabled_walls ts) p ≡ []
+      off [] u s h = absurd (omega (arith, u))
+      off (v ∷ ts) u s h = run-off e.order (tabled_walls (v ∷ ts)) p (wall_of v.wall.now) h (inl refl) (sym (s p) ∙ f)
 
--- all runs
-pub all-runs : (k n : ℕ) (ws : List Wall) (p : Point) (run : ℕ) (seen : List Wall) → Every (IsWall n) ws → length (runs ws) ≤ run → seen ≡ local k p (flat_map (λ u. u) (take run (runs ws))) → seen ≡ local k p (by_line ws)
-all-runs k n ws p run seen proper l h = h ∙ ap (λ gs. local k p (flat_map (λ u. u) gs)) (take_all run (runs ws) l) ∙ ap (local k p) (runs-are_all n ws proper)
+      none : run_halves p r ≡ []
+      none =
+          sym (halves-on p (tabled_walls r.items))
+          ∙ ap (flat_map (halves p)) (off r.items run-some s (run-at (IsRun e.order) rs i r l at (subst (Every (IsRun e.order)) (sym are.runs) (runs-are e.order (walls e.diagram) are.proper))))
+
+-- ---- the lines of runs
+
+pub lines-length : (rs : List TabledRun) (ls : List RunLine) → AreLinesOf rs ls → length ls ≡ length rs
+lines-length [] [] h = refl
+lines-length [] (k ∷ ls) h = absurd h
+lines-length (r ∷ rs) [] h = absurd h
+lines-length (r ∷ rs) (k ∷ ls) h = ap suc (lines-length rs ls h.1)
+
+pub run-there : (rs : List TabledRun) (i : ℕ) → i < length rs → (r : TabledRun) × (r ≡ get_or rs i r)
+run-there [] i l = absurd (omega (arith, l))
+run-there (r ∷ rs) zero l = (r, refl)
+run-there (r ∷ rs) (suc i) l = run-there rs i (omega (arith, l))
+
+pub line-at : (rs : List TabledRun) (ls : List RunLine) (i : ℕ) (r : TabledRun) (k : RunLine) → AreLinesOf rs ls → i < length rs → r ≡ get_or rs i r → k ≡ get_or ls i k → IsLineOfFirst r.items k
+line-at [] ls i r k h l e f = absurd (omega (arith, l))
+line-at (q ∷ rs) [] i r k h l e f = absurd h
+line-at (q ∷ rs) (m ∷ ls) zero r k h l e f = subst (λ (x : TabledRun). IsLineOfFirst x.items k) (sym e) (subst (IsLineOfFirst q.items) (sym f) h.0)
+line-at (q ∷ rs) (m ∷ ls) (suc i) r k h l e f = line-at rs ls i r k h.1 (omega (arith, l)) e f
+
+pub line-added : (rs new : List TabledRun) (ls more : List RunLine) (r : TabledRun) (k : RunLine) → new ≡ rs ++ r ∷ [] → more ≡ ls ++ k ∷ [] → IsLineOfFirst r.items k → AreLinesOf rs ls → AreLinesOf new more
+line-added rs new ls more r k e f h hs = subst (AreLinesOf new) (sym f) (subst (λ (x : List TabledRun). AreLinesOf x (ls ++ k ∷ [])) (sym e) (joined rs ls hs))
+  where
+    joined : (rs : List TabledRun) (ls : List RunLine) → AreLinesOf rs ls → AreLinesOf (rs ++ r ∷ []) (ls ++ k ∷ [])
+    joined [] [] hs = (h, tt)
+    joined [] (m ∷ ls) hs = absurd hs
+    joined (q ∷ rs) [] hs = absurd hs
+    joined (q ∷ rs) (m ∷ ls) hs = (hs.0, joined rs ls hs.1)
+
+pub first-line : (ws : List CodeWall) (ts : List WallTables) (w : CodeWall) (k : RunLine) → tabled_walls ts ≡ walls_of ws → 0 < length ws → w ≡ get_or ws 0 w → IsLineOf (wall_of w) k → IsLineOfFirst ts k
+first-line [] ts w k e l f h = absurd (omega (arith, l))
+first-line (v ∷ ws) [] w k e l f h = tt
+first-line (v ∷ ws) (t ∷ ts) w k e l f h = subst (λ (u : Wall). IsLineOf u k) (ap wall_of f ∙ sym (ap (λ gs. get_or gs 0 (wall_of v)) e)) h
+
+-- ---- all runs
+
+joined-runs : (p : Point) (rs : List TabledRun) → flat_map (run_halves p) rs ≡ flat_map (halves p) (flat_map (λ u. u) (tabled_runs rs))
+joined-runs p [] = refl
+joined-runs p (r ∷ rs) = ap (λ x. run_halves p r ++ x) (joined-runs p rs) ∙ sym (flat_map-append (halves p) (tabled_walls r.items) (flat_map (λ u. u) (tabled_runs rs)))
+
+pub all-runs : (e : SeenDiagram) (n : ℕ) (rs : List TabledRun) → AreTablesOf e n rs → (p : Point) (i : ℕ) (hs : List Half) → length rs ≤ i → hs ≡ flat_map (run_halves p) (take i rs) → hs ≡ flat_map (halves p) (by_line (walls e.diagram))
+all-runs e n rs are p i hs l h =
+    h ∙ ap (flat_map (run_halves p)) (take_all i rs l) ∙ joined-runs p rs
+    ∙ ap (λ gs. flat_map (halves p) (flat_map (λ u. u) gs)) are.runs
+    ∙ ap (flat_map (halves p)) (runs-are_all e.order (walls e.diagram) are.proper)
+
+pub by-angle : (e : SeenDiagram) (p : Point) → pos 1 ≤ℤ p.w → Every (IsWall e.order) (walls e.diagram) → half_walls (by_line (walls e.diagram)) p ≡ half_walls (walls e.diagram) p
+by-angle e p one proper = half_walls-sorted e.order p one (walls e.diagram) proper
+
+-- ---- tables of one run more
+
+pub run-added : (gs : List (List Wall)) (rs new : List TabledRun) (i : ℕ) (r : TabledRun) (g : List Wall) → i < length gs → g ≡ get_or gs i g → tabled_walls r.items ≡ g → new ≡ rs ++ r ∷ [] → tabled_runs rs ≡ take i gs
+    → tabled_runs new ≡ take (i + 1) gs
+run-added gs rs new i r g l e q n h =
+    ap tabled_runs n ∙ map-append (λ (x : TabledRun). tabled_walls x.items) rs (r ∷ [])
+    ∙ (λ j. h j ++ (q ∙ e) j ∷ [])
+    ∙ sym (take_more gs i g l)
+
+pub some-tabled : (ws : List CodeWall) (ts : List WallTables) → tabled_walls ts ≡ walls_of ws → 0 < length ws → 0 < length ts
+some-tabled [] ts e l = absurd (omega (arith, l))
+some-tabled (w ∷ ws) [] e l = absurd (cc)
+some-tabled (w ∷ ws) (t ∷ ts) e l = omega arith
+
+pub Every-added : {A : Type 0} (P : A → Type 0) (xs new : List A) (x : A) → new ≡ xs ++ x ∷ [] → P x → Every P xs → Every P new
+Every-added P xs new x e h hs = subst (Every P) (sym e) (Every-append P xs (x ∷ []) hs (h, tt))

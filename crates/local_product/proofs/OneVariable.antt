@@ -2,7 +2,7 @@
 use Rattle.std.proofs.Common.{◌≡◌, ℕ, zero, suc, ◌+◌, ◌*◌, ◌≤◌, refl, sym, subst, ap, ◌∙◌, Bool, true, false, cond, not, [], ◌∷◌, ◌++◌, map, arith}
 use Rattle.std.specs.Prelude.{pos, ◌-ℤ◌, nat_abs, nat_le}
 use Rattle.scattering.specs.Collections.{Every}
-use Rattle.scattering.specs.Series.{Exp, Key, Term, Sum, degree, det, unit, key_eq, key_mul, term_mul, cut, mul, pow, powers_to, rest, absolute, geometric, monomial, z, mass_to}
+use Rattle.scattering.specs.Series.{Exp, Key, Term, Sum, degree, det, unit, key_eq, key_mul, term_mul, cut, mul, pow, powers_to, rest, absolute, geometric, mass_to}
 use Rattle.scattering.specs.LocalProduct.{cross_majorant}
 use Rattle.scattering.proofs.Keys.{key_eq-same, key_eq-apart}
 use Rattle.scattering.proofs.Lists.{map-append}
@@ -113,6 +113,3 @@ around-one_variable m (t ∷ f) h = (subst (λ (d : ℕ). (nat_abs (t.0.exp.a -�
 pub nonnegative-one_variable : (f : Sum) → IsNonnegative f → IsNonnegative (in_one_variable f)
 nonnegative-one_variable [] h = tt
 nonnegative-one_variable (t ∷ f) h = (h.0, nonnegative-one_variable f h.1)
-
-pub start-one_variable : (m : Exp) → in_one_variable (monomial (z m)) ≡ monomial (z m)
-start-one_variable m = refl

@@ -1,7 +1,6 @@
 -- A series that stands for |f| in one variable can take the place of the wall function f in majorants.
 use Rattle.std.proofs.Common.{◌≡◌, ◌≢◌, ℕ, zero, suc, ◌+◌, ◌<◌, ◌≤◌, ◌^◌, refl, sym, subst, ap, ◌∙◌, Bool, true, false, cond, not, List, [], ◌∷◌, ◌++◌, length, take, arith}
 use Rattle.std.specs.Prelude.{ℤ, pos, ◌+ℤ◌, ◌≤ℤ◌, nat_abs, nat_le}
-use Rattle.std.specs.Int.{int_min}
 use Rattle.std.proofs.lemmas.Int.{ints}
 use Rattle.std.proofs.lemmas.List.{map_more, map-append}
 use native.Mathlib.Decide.{dec_le}
@@ -13,8 +12,6 @@ use Rattle.scattering.proofs.Lists.{Every-implies}
 use Rattle.scattering.proofs.Pairing.{coef-without}
 use Rattle.scattering.proofs.DistinctKeys.{series-distinct}
 use Rattle.scattering.proofs.Coefficients.{coef-above, mass-absolute, rest-absolute}
-use Rattle.trunc_series.specs.Arithmetic.{limit}
-use Rattle.trunc_series.specs.Capped.{IsMajorantOf}
 use Rattle.trunc_series.specs.Shown.{Seen, IsSeriesOf, HasNearTerms, IsValid, IsTerm, key_of, term_of, sum_of}
 use Rattle.trunc_series.specs.Reduced.{IsKeptAs}
 use Rattle.trunc_series.specs.declared.key.Key.{Key as CodeKey}
@@ -31,7 +28,6 @@ use Rattle.weight_theory.proofs.Bounds.{bounds-itself, absolute-nonnegative}
 use Rattle.weight_theory.proofs.Masses.{coef-absolute, coefficient-is-below}
 use Rattle.local_product.specs.OneVariable.{one_variable, in_one_variable}
 use Rattle.local_product.proofs.Exponents.{AreAround, keys-from, series-around, around-near, absolute-around}
-use Rattle.wall_auto.proofs.Saturated.{crossed-majorant}
 use Rattle.local_product.proofs.OneVariable.{HasOthers, first-other, stays-unit, same-degree, absolute-one_variable, majorant-one_variable, mass-one_variable, around-one_variable, nonnegative-one_variable}
 
 -- ---- absolute values
@@ -162,28 +158,24 @@ module _ (k : ℕ) (d : Exp) (f : Sum) (w : IsWallFunction k d f) where
         ∙ sym (coef-without unit x bound)
         ∙ ap (λ g. coef g x) (ap rest (sym (absolute-one_variable f)) ∙ rest-absolute (in_one_variable f))
 
-    same-geometric : Same (geometric k s.terms) (geometric k (in_one_variable f))
-    same-geometric = powers k
-      where
-        powers : (i : ℕ) → Same (powers_to k (absolute (rest s.terms)) i) (powers_to k (absolute (rest (in_one_variable f))) i)
-        powers zero = λ x. refl
-        powers (suc i) = addition-keeps (powers_to k (absolute (rest s.terms)) i) (powers_to k (absolute (rest (in_one_variable f))) i) (pow k (absolute (rest s.terms)) (suc i)) (pow k (absolute (rest (in_one_variable f))) (suc i)) (powers i) (powers-keep k (absolute (rest s.terms)) (absolute (rest (in_one_variable f))) (suc i) same-rest)
+    module _ (n : ℕ) where
+      same-geometric : Same (geometric n s.terms) (geometric n (in_one_variable f))
+      same-geometric = powers n
+        where
+          powers : (i : ℕ) → Same (powers_to n (absolute (rest s.terms)) i) (powers_to n (absolute (rest (in_one_variable f))) i)
+          powers zero = λ x. refl
+          powers (suc i) = addition-keeps (powers_to n (absolute (rest s.terms)) i) (powers_to n (absolute (rest (in_one_variable f))) i) (pow n (absolute (rest s.terms)) (suc i)) (pow n (absolute (rest (in_one_variable f))) (suc i)) (powers i) (powers-keep n (absolute (rest s.terms)) (absolute (rest (in_one_variable f))) (suc i) same-rest)
 
-    same-majorant : (g : Sum) → Same (cross_majorant k d s.terms g) (cross_majorant k d (in_one_variable f) g)
-    same-majorant [] x = refl
-    same-majorant (t ∷ g) x =
-        addition-keeps (mul k (t ∷ []) (pow k (geometric k s.terms) (nat_abs (det d t.0.exp)))) (mul k (t ∷ []) (pow k (geometric k (in_one_variable f)) (nat_abs (det d t.0.exp)))) (cross_majorant k d s.terms g) (cross_majorant k d (in_one_variable f) g)
-        (multiplication-keeps k (t ∷ []) (t ∷ []) (pow k (geometric k s.terms) (nat_abs (det d t.0.exp))) (pow k (geometric k (in_one_variable f)) (nat_abs (det d t.0.exp))) (λ y. refl) (powers-keep k (geometric k s.terms) (geometric k (in_one_variable f)) (nat_abs (det d t.0.exp)) same-geometric))
-        (same-majorant g) x
+      same-majorant : (g : Sum) → Same (cross_majorant n d s.terms g) (cross_majorant n d (in_one_variable f) g)
+      same-majorant [] x = refl
+      same-majorant (t ∷ g) x =
+          addition-keeps (mul n (t ∷ []) (pow n (geometric n s.terms) (nat_abs (det d t.0.exp)))) (mul n (t ∷ []) (pow n (geometric n (in_one_variable f)) (nat_abs (det d t.0.exp)))) (cross_majorant n d s.terms g) (cross_majorant n d (in_one_variable f) g)
+          (multiplication-keeps n (t ∷ []) (t ∷ []) (pow n (geometric n s.terms) (nat_abs (det d t.0.exp))) (pow n (geometric n (in_one_variable f)) (nat_abs (det d t.0.exp))) (λ y. refl) (powers-keep n (geometric n s.terms) (geometric n (in_one_variable f)) (nat_abs (det d t.0.exp)) same-geometric))
+          (same-majorant g) x
 
-    -- a majorant in one variable after one crossing more
-    pub one_variable-crossed : (g m : Seen) (G : Sum) → IsMajorantOf g k (in_one_variable G) → IsNonnegative G → IsMajorantOf m k (cross_majorant k d s.terms g.terms) → IsMajorantOf m k (in_one_variable (cross_majorant k d f G))
-    one_variable-crossed g m G h p c =
-        let q = crossed-majorant k g (in_one_variable G) h (nonnegative-one_variable G p) d s.terms m c in record {
-          order = q.order;
-          series = q.series;
-          capped = λ x. q.capped x ∙ ap (λ c. int_min c limit) (same-majorant (in_one_variable G) x ∙ ap (λ u. coef u x) (majorant-one_variable k d f G function-others));
-        }
+      -- a majorant in one variable after one crossing more
+      pub one_variable-crossed : (G : Sum) → Same (cross_majorant n d s.terms (in_one_variable G)) (in_one_variable (cross_majorant n d f G))
+      one_variable-crossed G x = same-majorant (in_one_variable G) x ∙ ap (λ u. coef u x) (majorant-one_variable n d f G function-others)
 
 -- ---- the terms of the program
 

@@ -1,47 +1,36 @@
--- The image of an axis and its majorant after some half-walls of the program, and after one more.
-use Rattle.std.proofs.Common.{◌≡◌, ℕ, zero, suc, ◌+◌, ◌*◌, ◌<◌, ◌≤◌, ◌^◌, refl, sym, subst, ap, ◌∙◌, List, [], ◌∷◌, ◌++◌, length, take, drop, get_or, le_trans, min, arith}
-use Rattle.std.specs.Prelude.{ℤ, pos, ◌-ℤ◌, ◌*ℤ◌, neg_ℤ, nat_abs}
+-- The image of an axis and its majorant, by degree, after some half-walls of the program and after one more.
+use Rattle.std.proofs.Common.{◌≡◌, ℕ, suc, ◌+◌, ◌*◌, ◌<◌, ◌≤◌, ◌^◌, refl, sym, subst, ap, ◌∙◌, List, [], ◌∷◌, ◌++◌, length, take, get_or, not, arith}
+use Rattle.std.specs.Prelude.{ℤ, ◌*ℤ◌, neg_ℤ, nat_abs}
 use Rattle.std.proofs.lemmas.Int.{ints}
-use Rattle.std.proofs.lemmas.List.{map_more, take-append-drop, map-append}
+use Rattle.std.proofs.lemmas.List.{map_more}
 use Rattle.scattering.specs.Collections.{Every}
-use Rattle.scattering.specs.Series.{Exp, Sum, det, origin, degree, coef, absolute, power, monomial, z, mass_to, IsSeries, IsWallFunction}
-use Rattle.scattering.specs.LocalProduct.{Half, cross, cross_half, cross_majorant, carry, carry_majorant}
-use Rattle.trunc_series.specs.Shown.{Seen, IsSeriesOf, HasNearTerms}
-use Rattle.trunc_series.specs.Capped.{IsMajorantOf}
-use Rattle.trunc_series.proofs.Unique.{series-terms}
+use Rattle.scattering.specs.Series.{Exp, Term, Sum, Same, degree, coef, unit, key_eq, rest, monomial, z, mul, power, det, IsWallFunction}
+use Rattle.scattering.specs.LocalProduct.{Half, cross, cross_half, carry, carry_majorant}
+use Rattle.scattering.proofs.Lists.{Every-append, Every-filter}
+use Rattle.trunc_series.specs.declared.arithmetic.Arithmetic.{Arithmetic}
+use Rattle.trunc_series.specs.declared.arithmetic.Arithmetic.TheVariants.{Wrapping, Saturating}
+use Rattle.trunc_series.specs.Arithmetic.{kept, IsKeepable}
+use Rattle.trunc_series.proofs.Products.{low-mul}
 use Rattle.plane_geom.specs.Shown.{vector_of}
-use Rattle.weight_theory.specs.Laws.{IsBelow, AreHalves}
-use Rattle.weight_theory.proofs.Stages.{carry-append as majorant-append, carry-nonnegative, monomial-nonnegative, stage-is-light, image-is-below}
-use Rattle.weight_theory.proofs.Bounds.{absolute-nonnegative}
-use Rattle.weight_theory.proofs.Masses.{series-absolute-is-below, majorant-mass-is-monotone}
-use Rattle.scatter_diagram.specs.Proper.{IsTame}
+use Rattle.weight_theory.specs.Laws.{AreHalves, IsNonnegative}
+use Rattle.weight_theory.proofs.Stages.{carry-append as majorant-append, carry-nonnegative, monomial-nonnegative}
+use Rattle.power_tables.specs.Parts.{GrowsBy}
+use Rattle.power_tables.specs.Tables.{SeenTable, IsTableOf}
 use Rattle.wall_auto.specs.declared.side.Side.{Side}
 use Rattle.wall_auto.specs.declared.side.Side.TheVariants.{Plus, Minus}
 use Rattle.wall_auto.specs.Sign.{sign}
+use Rattle.wall_auto.specs.ByDegree.{part, StandsByDegree, KeyGrowsBy, PartsGrowBy, AreNear, AreKept, crossing_of, CrossesParts, CrossesWithin}
 use Rattle.local_product.specs.declared.half_walls.HalfWall.{HalfWall}
-use Rattle.local_product.specs.Shown.{half_of, halves_of, HalvesHaveOrder, IsUnit}
+use Rattle.local_product.specs.Shown.{half_of, halves_of}
+use Rattle.local_product.specs.declared.majorants.BoundingHalf.{BoundingHalf}
+use Rattle.local_product.specs.Majorants.{majorant_half, majorant_halves, HasMajorant}
+use Rattle.local_product.specs.Tabled.{HalfHasTables}
 use Rattle.local_product.specs.OneVariable.{in_one_variable}
-use Rattle.wall_auto.proofs.Substituted.{substituted-same}
-use Rattle.local_product.proofs.OneVariable.{around-one_variable, nonnegative-one_variable, mass-one_variable}
+use Rattle.local_product.proofs.OneVariable.{nonnegative-one_variable}
 use Rattle.local_product.proofs.OneVariableFunctions.{one_variable-crossed}
-use Rattle.wall_auto.proofs.Saturated.{kept-mass}
-use Rattle.local_product.proofs.Exponents.{AreAround, carry-around, carry_majorant-around, monomial-around, series-around, majorant-of-around, around-near}
+use Rattle.local_product.proofs.WallFunctions.{bound-function, bound-grows}
 
 -- ---- what each half-wall of the program has
-
-pub tame-around : (f : Sum) → Every IsTame f → AreAround origin f
-tame-around [] h = tt
-tame-around (t ∷ f) h = ((same t.0.exp.a (degree t.0) h.0.0, same t.0.exp.b (degree t.0) h.0.1), tame-around f h.1)
-  where
-    same : (x : ℤ) (d : ℕ) → nat_abs x ≤ 64 * d → nat_abs (x -ℤ pos 0) ≤ 64 * d
-    same x d l = omega (arith, ints, l)
-
-pub function-around : (h : HalfWall) → AreAround origin h.wall.now.function.terms
-function-around h = tame-around h.wall.now.function.terms h.wall.now.proper.tame
-
-pub functions-around : (hs : List HalfWall) → Every (λ h. AreAround origin h.wall.function) (halves_of hs)
-functions-around [] = tt
-functions-around (h ∷ hs) = (function-around h, functions-around hs)
 
 unit-side : (s : Side) → nat_abs (neg_ℤ (sign s)) ≡ 1
 unit-side Plus = refl
@@ -55,11 +44,33 @@ pub are-halves : (hs : List HalfWall) → AreHalves (halves_of hs)
 are-halves [] = tt
 are-halves (h ∷ hs) = (((h.wall.now.function.order, h.wall.now.proper.function), unit-side h.crossing), are-halves hs)
 
-pub function-near : (n : ℕ) (h : HalfWall) → n ≤ 24 → h.wall.now.function.order ≡ n → HasNearTerms h.wall.now.function.terms
-function-near n h l e = around-near h.wall.now.function.order origin h.wall.now.function.terms (omega (arith, e, l)) (omega arith, omega arith) (function-around h) h.wall.now.proper.function.series.low
+-- ---- tables
 
-pub function-at : (h : HalfWall) (n : ℕ) → h.wall.now.function.order ≡ n → IsWallFunction n (vector_of h.wall.now.dir) h.wall.now.function.terms
-function-at h n e = subst (λ (m : ℕ). IsWallFunction m (vector_of h.wall.now.dir) h.wall.now.function.terms) e h.wall.now.proper.function
+pub kept-by : (rule : Arithmetic) (k : ℕ) (f : Sum) (t : SeenTable) → IsTableOf rule k f t → (ps : List Sum) → AreKept t.rule ps → AreKept rule ps
+kept-by rule k f t is ps h = subst (λ (r : Arithmetic). AreKept r ps) is.arithmetic h
+
+pub kept-for : (rule : Arithmetic) (k : ℕ) (f : Sum) (t : SeenTable) → IsTableOf rule k f t → (ps : List Sum) → AreKept rule ps → AreKept t.rule ps
+kept-for rule k f t is ps h = subst (λ (r : Arithmetic). AreKept r ps) (sym is.arithmetic) h
+
+crossed-by : (rule : Arithmetic) (t : SeenTable) → t.rule ≡ rule → (d : Exp) (s : ℤ) (old new : List Sum) → CrossesParts t d s old new → (k m : ℕ) (f g : Sum) → IsWallFunction m d f → IsTableOf rule k f t
+    → StandsByDegree rule k old g → StandsByDegree rule k new (crossing_of rule k d f s g)
+crossed-by rule t e d s old new c k m f g =
+    subst (λ (r : Arithmetic). IsWallFunction m d f → IsTableOf r k f t → StandsByDegree r k old g → StandsByDegree r k new (crossing_of r k d f s g)) e (c k m f g)
+
+others-grow : (s : ℕ) (f : Sum) → GrowsBy s f → GrowsBy s (rest f)
+others-grow s f h = Every-filter (λ (t : Term). (nat_abs t.0.exp.a ≤ s * degree t.0) × (nat_abs t.0.exp.b ≤ s * degree t.0)) (λ t. not (key_eq t.0 unit)) f h
+
+-- ---- exponents
+
+pub within-near : (k : ℕ) (ps : List Sum) → k ≤ 24 → length ps ≡ suc k → PartsGrowBy 1 64 ps → AreNear ps
+within-near k ps l n h = λ e b. each (part ps e) e (omega (arith, l, n, b)) (h e b)
+  where
+    each : (f : Sum) (e : ℕ) → e ≤ 24 → Every (λ t. KeyGrowsBy 1 64 e t.0) f → Every (λ t. KeyGrowsBy (2 ^ 16) 0 e t.0) f
+    each [] e b h = tt
+    each (t ∷ f) e b h = ((h.0.0, less t.0.exp.a h.0.1, less t.0.exp.b h.0.2), each f e b h.1)
+      where
+        less : (x : ℤ) → nat_abs x ≤ 1 + 64 * e → nat_abs x ≤ 2 ^ 16 + 0 * e
+        less x q = omega (arith, ints, b, q)
 
 -- ---- one half-wall more
 
@@ -67,78 +78,64 @@ carry-append : (k : ℕ) (hs hs' : List Half) (g : Sum) → carry k (hs ++ hs') 
 carry-append k [] hs' g = refl
 carry-append k (h ∷ hs) hs' g = carry-append k hs hs' (cross_half k h g)
 
-module _ (k : ℕ) (small : k ≤ 24) (m : Exp) (unit : IsUnit m) (hs : List HalfWall) where
-  abbrev start : Sum
-  start = monomial (z m)
+stands-same : (rule : Arithmetic) (k : ℕ) (ps : List Sum) (f g : Sum) → Same f g → Every (λ t. IsKeepable rule t.1) g → StandsByDegree rule k ps f → StandsByDegree rule k ps g
+stands-same rule k ps f g q h s = record {
+  lengths = s.lengths;
+  each = λ e l. let p = s.each e l in record { values = p.values; degrees = p.degrees; keepable = h; same = λ x d. p.same x d ∙ ap (kept rule) (q x) };
+}
 
-  abbrev so_far : ℕ → List Half
+module _ (k : ℕ) (m : Exp) (hs : List HalfWall) where
+  abbrev pub so_far : ℕ → List Half
   so_far i = halves_of (take i hs)
 
-  module _ (i : ℕ) (g : Seen) (is : IsSeriesOf g k (carry k (so_far i) start)) where
-    pub stage-near : HasNearTerms g.terms
-    stage-near = around-near k m g.terms small unit (series-around k m g _ is (carry-around k (so_far i) m start (functions-around (take i hs)) (monomial-around m))) is.series.low
+  abbrev pub image_to : ℕ → Sum
+  image_to i = carry k (so_far i) (monomial (z m))
 
-    below : IsBelow k (absolute g.terms) (carry_majorant k (so_far i) start)
-    below = series-absolute-is-below k k g.terms (carry k (so_far i) start) (carry_majorant k (so_far i) start) is.series (λ x l. is.same x) (image-is-below k (so_far i) m (are-halves (take i hs)))
+  module _ (i : ℕ) (h : HalfWall) (l : i < length hs) (e : h ≡ get_or hs i h) (tables : HalfHasTables k h) (old new : List Sum) where
+    next : so_far (i + 1) ≡ so_far i ++ half_of h ∷ []
+    next = map_more half_of hs i h l ∙ ap (λ (u : HalfWall). so_far i ++ half_of u ∷ []) (sym e)
 
-    module _ (h : HalfWall) (l : i < length hs) (e : h ≡ get_or hs i h) where
-      next : so_far (i + 1) ≡ so_far i ++ half_of h ∷ []
-      next = map_more half_of hs i h l ∙ ap (λ (u : HalfWall). so_far i ++ half_of u ∷ []) (sym e)
+    pub next-stands : CrossesParts h.powers.now (vector_of h.wall.now.dir) (sign h.crossing) old new → StandsByDegree Wrapping k old (image_to i) → StandsByDegree Wrapping k new (image_to (i + 1))
+    next-stands c s =
+        subst (λ (f : Sum). StandsByDegree Wrapping k new f)
+        (ap (λ n. cross k (vector_of h.wall.now.dir) h.wall.now.function.terms n (image_to i)) (sym (sign-twice h.crossing))
+        ∙ sym (ap (λ (us : List Half). carry k us (monomial (z m))) next ∙ carry-append k (so_far i) (half_of h ∷ []) (monomial (z m))))
+        (crossed-by Wrapping h.powers.now tables.0.arithmetic (vector_of h.wall.now.dir) (sign h.crossing) old new c k h.wall.now.function.order h.wall.now.function.terms (image_to i) h.wall.now.proper.function tables.0 s)
 
-      all : halves_of hs ≡ so_far (i + 1) ++ halves_of (drop (i + 1) hs)
-      all = ap halves_of (sym (take-append-drop (i + 1) hs)) ∙ map-append half_of (take (i + 1) hs) (drop (i + 1) hs)
+    pub next-within : CrossesWithin h.powers.now old new → PartsGrowBy 1 64 old → PartsGrowBy 1 64 new
+    next-within c w = c 1 64 (tables.0.growth 64 (others-grow 64 h.wall.now.function.terms h.wall.now.proper.tame)) w
 
-      pub stage-mass : mass_to k (cross_majorant k (vector_of h.wall.now.dir) h.wall.now.function.terms (absolute g.terms)) ≤ mass_to k (carry_majorant k (halves_of hs) start)
-      stage-mass =
-          le_trans (majorant-mass-is-monotone k (vector_of h.wall.now.dir) h.wall.now.function.terms (absolute g.terms) (carry_majorant k (so_far i) start) (absolute-nonnegative k g.terms) below)
-          (subst (λ (f : Sum). mass_to k f ≤ mass_to k (carry_majorant k (halves_of hs) start)) (ap (λ (us : List Half). carry_majorant k us start) next ∙ majorant-append k (so_far i) (half_of h ∷ []) start)
-          (subst (λ (us : List Half). mass_to k (carry_majorant k (so_far (i + 1)) start) ≤ mass_to k (carry_majorant k us start)) (sym all) (stage-is-light k (so_far (i + 1)) (halves_of (drop (i + 1) hs)) start (monomial-nonnegative (z m)))))
+-- ---- of majorants
 
-      pub stage-next : (s : Seen) → IsSeriesOf s k (cross k (vector_of h.wall.now.dir) h.wall.now.function.terms (sign h.crossing) g.terms) → IsSeriesOf s k (carry k (so_far (i + 1)) start)
-      stage-next s c = record {
-        order = c.order;
-        series = c.series;
-        same = λ x.
-            c.same x
-            ∙ ap (λ n. coef (cross k (vector_of h.wall.now.dir) h.wall.now.function.terms n g.terms) x) (sym (sign-twice h.crossing))
-            ∙ substituted-same k (λ y. power k h.wall.now.function.terms (neg_ℤ (neg_ℤ (sign h.crossing)) *ℤ det (vector_of h.wall.now.dir) y.exp)) g.terms (carry k (so_far i) start) is.same x
-            ∙ ap (λ f. coef f x) (sym (ap (λ (us : List Half). carry k us start) next ∙ carry-append k (so_far i) (half_of h ∷ []) start));
-      }
+module _ (k : ℕ) (m : Exp) (hs : List BoundingHalf) where
+  abbrev pub majorant_to : ℕ → Sum
+  majorant_to i = carry_majorant k (majorant_halves (take i hs)) (monomial (z m))
 
--- ---- the start
+  majorant-nonnegative : (i : ℕ) → IsNonnegative (majorant_to i)
+  majorant-nonnegative i = carry-nonnegative k (majorant_halves (take i hs)) (monomial (z m)) (monomial-nonnegative (z m))
 
-monomial-series : (k : ℕ) (m : Exp) → IsSeries k (monomial (z m))
-monomial-series k m = record { rises = (tt, tt); nonzero = ((λ e. omega (arith, ints, e)), tt); low = (omega arith, tt) }
+  module _ (i : ℕ) (h : BoundingHalf) (l : i < length hs) (e : h ≡ get_or hs i h) (has : HasMajorant k h) (old new : List Sum) where
+    one_more : majorant_halves (take (i + 1) hs) ≡ majorant_halves (take i hs) ++ majorant_half h ∷ []
+    one_more = map_more majorant_half hs i h l ∙ ap (λ (u : BoundingHalf). majorant_halves (take i hs) ++ majorant_half u ∷ []) (sym e)
 
-pub start-majorant : (k : ℕ) (m : Exp) (f g : Seen) → IsSeriesOf f k (monomial (z m)) → IsMajorantOf g f.order (absolute f.terms) → IsMajorantOf g k (monomial (z m))
-start-majorant k m f g h i =
-    let e : f.terms ≡ monomial (z m) = series-terms f k k (monomial (z m)) h (monomial-series k m) in
-    subst (λ (n : ℕ). IsMajorantOf g n (monomial (z m))) h.order (subst (λ (s : Sum). IsMajorantOf g f.order (absolute s)) e i)
+    pub next-majorant-stands : CrossesParts h.powers (vector_of h.wall.now.dir) (sign h.crossing) old new → StandsByDegree Saturating k old (in_one_variable (majorant_to i)) → StandsByDegree Saturating k new (in_one_variable (majorant_to (i + 1)))
+    next-majorant-stands c s =
+        stands-same Saturating k new _ _
+        (λ x. one_variable-crossed h.wall.now.function.order (vector_of h.wall.now.dir) h.wall.now.function.terms h.wall.now.proper.function has.bound has.in_one_variable k (majorant_to i) x
+        ∙ ap (λ f. coef (in_one_variable f) x) (sym (ap (λ (us : List Half). carry_majorant k us (monomial (z m))) one_more ∙ majorant-append k (majorant_halves (take i hs)) (majorant_half h ∷ []) (monomial (z m)))))
+        (nonnegative-one_variable (majorant_to (i + 1)) (majorant-nonnegative (i + 1)))
+        (crossed-by Saturating h.powers has.powers.arithmetic (vector_of h.wall.now.dir) (sign h.crossing) old new c k has.bound.order has.bound.terms (in_one_variable (majorant_to i))
+        (bound-function h.wall.now has.bound has.in_one_variable) has.powers s)
 
-pub order-at : (n : ℕ) (hs : List HalfWall) (i : ℕ) (h : HalfWall) → i < length hs → h ≡ get_or hs i h → HalvesHaveOrder n hs → h.wall.now.function.order ≡ n
-order-at n [] i h l e o = absurd (omega (arith, l))
-order-at n (u ∷ hs) zero h l e o = subst (λ (v : HalfWall). v.wall.now.function.order ≡ n) (sym e) o.0
-order-at n (u ∷ hs) (suc i) h l e o = order-at n hs i h (omega (arith, l)) e o.1
+    pub next-majorant-within : CrossesWithin h.powers old new → PartsGrowBy 1 64 old → PartsGrowBy 1 64 new
+    next-majorant-within c w = c 1 64 (has.powers.growth 64 (others-grow 64 has.bound.terms (bound-grows h.wall.now has.bound has.in_one_variable))) w
 
--- ---- majorants in one variable
+-- ---- degrees and coefficients of images
 
-module _ (k : ℕ) (small : k ≤ 24) (m : Exp) (unit : IsUnit m) (hs : List HalfWall) (i : ℕ) (g : Seen) (is : IsMajorantOf g k (in_one_variable (carry_majorant k (halves_of (take i hs)) (monomial (z m))))) where
-  pub one_variable-majorant-near : HasNearTerms g.terms
-  one_variable-majorant-near =
-      around-near k m g.terms small unit
-      (majorant-of-around k m g _ is (around-one_variable m _ (carry_majorant-around k (halves_of (take i hs)) m (monomial (z m)) (functions-around (take i hs)) (monomial-around m)))) is.series.low
-
-  pub one_variable-next : (h : HalfWall) → i < length hs → h ≡ get_or hs i h → h.wall.now.function.order ≡ k → (s : Seen) → IsSeriesOf s k (in_one_variable (absolute h.wall.now.function.terms))
-      → (t : Seen) → IsMajorantOf t k (cross_majorant k (vector_of h.wall.now.dir) s.terms g.terms) → IsMajorantOf t k (in_one_variable (carry_majorant k (halves_of (take (i + 1) hs)) (monomial (z m))))
-  one_variable-next h l e o s f t c =
-      subst (λ (u : Sum). IsMajorantOf t k (in_one_variable u))
-      (sym (ap (λ (us : List Half). carry_majorant k us (monomial (z m))) (map_more half_of hs i h l ∙ ap (λ (u : HalfWall). halves_of (take i hs) ++ half_of u ∷ []) (sym e)) ∙ majorant-append k (halves_of (take i hs)) (half_of h ∷ []) (monomial (z m))))
-      (one_variable-crossed k (vector_of h.wall.now.dir) h.wall.now.function.terms (function-at h k o) s f g t (carry_majorant k (halves_of (take i hs)) (monomial (z m))) is (carry-nonnegative k (halves_of (take i hs)) (monomial (z m)) (monomial-nonnegative (z m))) c)
-
-pub one_variable-weight : (k : ℕ) (m : Exp) (hs : List HalfWall) (g : Seen) → IsMajorantOf g k (in_one_variable (carry_majorant k (halves_of hs) (monomial (z m)))) → (w : ℕ) → w ≡ min (mass_to g.order g.terms) (2 ^ 126 + 1) → w ≡ min (mass_to k (carry_majorant k (halves_of hs) (monomial (z m)))) (2 ^ 126 + 1)
-one_variable-weight k m hs g is w e =
-    let G : Sum = carry_majorant k (halves_of hs) (monomial (z m)) in
-    e
-    ∙ ap (λ (n : ℕ). min (mass_to n g.terms) (2 ^ 126 + 1)) is.order
-    ∙ kept-mass k g (in_one_variable G) is (nonnegative-one_variable G (carry-nonnegative k (halves_of hs) (monomial (z m)) (monomial-nonnegative (z m))))
-    ∙ ap (λ n. min n (2 ^ 126 + 1)) (mass-one_variable k G)
+pub carry-low : (k : ℕ) (hs : List Half) (g : Sum) → Every (λ t. degree t.0 ≤ k) g → Every (λ t. degree t.0 ≤ k) (carry k hs g)
+carry-low k [] g h = h
+carry-low k (c ∷ hs) g h = carry-low k hs (cross_half k c g) (crossed g)
+  where
+    crossed : (g : Sum) → Every (λ t. degree t.0 ≤ k) (cross_half k c g)
+    crossed [] = tt
+    crossed (t ∷ g) = Every-append (λ (t : Term). degree t.0 ≤ k) (mul k (t ∷ []) (power k c.wall.function (neg_ℤ c.side *ℤ det c.wall.dir t.0.exp))) (cross_half k c g) (low-mul k (t ∷ []) (power k c.wall.function (neg_ℤ c.side *ℤ det c.wall.dir t.0.exp))) (crossed g)

@@ -1,4 +1,9 @@
 pub mod Shown
-pub mod Local
+pub mod Tabled
+pub mod RunLines
+pub mod Workspace
+pub mod Majorants
 pub mod Obstruction
+pub mod LightPoint
+pub mod OneSide
 pub mod OneVariable

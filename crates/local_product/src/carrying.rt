@@ -1,61 +1,90 @@
-// The image of an axis under crossings of half-walls, and the majorant that bounds it.
+// The image of an axis under crossings of half-walls, by degree.
 
-ghost use Rattle.std.specs.Prelude.{◌≡◌, ◌≤◌, IfOk};
+ghost use Rattle.std.specs.Prelude.{◌≡◌, ◌≤◌, suc, length, IfOk, OnOk};
 ghost use Rattle.limits.specs.Limits.{highest_order, largest_weight};
-ghost use Rattle.scattering.specs.Series.{monomial, z};
+ghost use Rattle.scattering.specs.ThetaProduct.{of_degree};
 ghost use Rattle.trunc_series.specs.Shown.{exp_of, IsSeriesOf};
-ghost use Rattle.local_product.specs.Shown.{HalvesHaveOrder, IsUnit, carried, carried_mass, counted_weight};
+ghost use Rattle.trunc_series.specs.declared.arithmetic.Arithmetic.TheVariants.{Wrapping};
+ghost use Rattle.wall_auto.specs.ByDegree.{AreKept};
+ghost use Rattle.local_product.specs.Shown.{IsUnit, IsImageByDegree, carried, carried_mass};
+ghost use Rattle.local_product.specs.Tabled.{HalvesHaveTables};
 
 use crate::half_walls::HalfWall;
-use crate::one_variable::function_in_one_variable;
+use power_tables::PowerValues;
 use std::alloc::{AllocError, Global};
-use trunc_series::{Exp, Key, Majorant, Series};
-use wall_auto::{cross, cross_majorant};
+use trunc_series::sorted_terms::Arithmetic;
+use trunc_series::{Exp, Series};
+use wall_auto::SumByDegree;
 
-/// z^m
-pub(crate) fn start(alloc: Global, order: u32, m: Exp) -> Result<Series, AllocError>
-    requires { order ≤ highest_order }
-    ensures { IfOk result (λ s. IsSeriesOf s order (monomial (z (exp_of m)))) }
-{
-    let key = Key {
-        exp: m,
-        powers: [0; 8],
-    };
-    Series::monomial(alloc, order, key, 1)
-}
+pub(crate) const AXIS_X: Exp = Exp { a: 1, b: 0 };
 
-/// The image of z^m after the half-walls are crossed, the first one first. The numbers of m are at most 1
-/// in absolute value, and the image's majorant has a mass of at most 2^126.
-pub fn image(alloc: Global, order: u32, halves: &[HalfWall], m: Exp) -> Result<Series, AllocError>
-    requires order { order ≤ highest_order }
-    requires functions { HalvesHaveOrder order halves.now }
-    requires axis { IsUnit (exp_of m) }
-    requires mass { carried_mass order halves.now (exp_of m) ≤ largest_weight }
-    ensures { IfOk result (λ s. IsSeriesOf s order (carried order halves.now (exp_of m))) }
-{
-    let mut g = start(alloc, order, m)?;
-    for h in halves {
-        g = cross(alloc, &g, &h.wall.dir, &h.wall.function, h.crossing)?;
-    }
-    Ok(g)
-}
+pub(crate) const AXIS_Y: Exp = Exp { a: 0, b: 1 };
 
-/// The mass of the majorant of that image, or 2^126 + 1 where it is above 2^126.
-pub fn majorant_mass(
-    alloc: Global,
+/// Makes the image of z^m after the half-walls are crossed, the first one first. The numbers of m are at most
+/// 1 in absolute value.
+fn carry(
+    sum: &mut SumByDegree,
+    values: &mut PowerValues,
     order: u32,
     halves: &[HalfWall],
     m: Exp,
-) -> Result<u128, AllocError>
+) -> Result<(), AllocError>
     requires order { order ≤ highest_order }
-    requires functions { HalvesHaveOrder order halves.now }
+    requires parts { length sum.old ≡ suc order }
+    requires tables { HalvesHaveTables order halves.now }
     requires axis { IsUnit (exp_of m) }
-    ensures { IfOk result (λ w. w ≡ counted_weight (carried_mass order halves.now (exp_of m))) }
+    ensures parts { length sum.new ≡ suc order }
+    ensures kept { OnOk result (AreKept Wrapping sum.new) }
+    ensures image { OnOk result (IsImageByDegree order halves.now (exp_of m) sum.new) }
 {
-    let mut g = Majorant::of(&start(alloc, order, m)?)?;
+    sum.start(Arithmetic::Wrapping, &m)?;
     for h in halves {
-        let f = function_in_one_variable(alloc, h.wall)?;
-        g = cross_majorant(alloc, &g, &h.wall.dir, &f)?;
+        sum.cross(h.powers, &h.wall.dir, h.crossing, values)?;
     }
-    Ok(g.mass())
+    Ok(())
+}
+
+/// The image of z^m, where its majorant has a mass of at most 2^126.
+pub(crate) fn image(
+    alloc: Global,
+    sum: &mut SumByDegree,
+    values: &mut PowerValues,
+    order: u32,
+    halves: &[HalfWall],
+    m: Exp,
+) -> Result<Series, AllocError>
+    requires order { order ≤ highest_order }
+    requires parts { length sum.old ≡ suc order }
+    requires tables { HalvesHaveTables order halves.now }
+    requires axis { IsUnit (exp_of m) }
+    requires mass { carried_mass order halves.now (exp_of m) ≤ largest_weight }
+    ensures parts { length sum.new ≡ suc order }
+    ensures image { IfOk result (λ s. IsSeriesOf s order (carried order halves.now (exp_of m))) }
+{
+    carry(sum, values, order, halves, m)?;
+    let terms = sum.sorted(Arithmetic::Wrapping)?;
+    Ok(Series::from_sorted(alloc, order, terms))
+}
+
+/// The terms of the order's own degree of that image.
+pub(crate) fn highest_part(
+    alloc: Global,
+    sum: &mut SumByDegree,
+    values: &mut PowerValues,
+    order: u32,
+    halves: &[HalfWall],
+    m: Exp,
+) -> Result<Series, AllocError>
+    requires order { order ≤ highest_order }
+    requires parts { length sum.old ≡ suc order }
+    requires tables { HalvesHaveTables order halves.now }
+    requires axis { IsUnit (exp_of m) }
+    requires mass { carried_mass order halves.now (exp_of m) ≤ largest_weight }
+    ensures parts { length sum.new ≡ suc order }
+    ensures part { IfOk result
+        (λ s. IsSeriesOf s order (of_degree order (carried order halves.now (exp_of m)))) }
+{
+    carry(sum, values, order, halves, m)?;
+    let terms = sum.sorted_part(Arithmetic::Wrapping, order)?;
+    Ok(Series::from_sorted(alloc, order, terms))
 }

@@ -1,24 +1,31 @@
 // The half-walls at a point, in order by angle.
 
-ghost use Rattle.std.specs.Prelude.{◌≡◌, ℕ, IfOk, OnOk, IsTrue};
+ghost use Rattle.std.specs.Prelude.{◌≡◌, ℕ, OnOk, IsTrue};
 ghost use Rattle.scattering.specs.Collections.{Every, in_order};
-ghost use Rattle.scattering.specs.Wall.{is_on};
 ghost use Rattle.scattering.specs.LocalProduct.{along};
+ghost use Rattle.scattering.specs.Wall.{IsWall, is_on, walls};
 ghost use Rattle.plane_geom.specs.Shown.{point_of, vector_of};
-ghost use Rattle.scatter_diagram.specs.Listed.{AreOfOrder};
-ghost use Rattle.scatter_diagram.specs.Shown.{wall_of, walls_of};
-ghost use Rattle.local_product.specs.Shown.{half_of, half_before, HalvesHaveOrder, KeepsOrder, AddsHalves, AreHalvesOf, AreHalfWalls};
+ghost use Rattle.scatter_diagram.specs.Shown.{wall_of};
+ghost use Rattle.local_product.specs.Shown.{half_of, half_before, AddsHalves, AddsRun, AreHalvesOf, AreHalfWalls};
+ghost use Rattle.local_product.specs.Tabled.{HalvesHaveTables, KeepsTables, KeepsRunTables};
 
+use crate::run_line::RunLine;
+use crate::tables::LocalTables;
+use crate::wall_tables::WallTables;
 use plane_geom::{Direction, Point, angle_cmp};
+use power_tables::PowerTable;
 use scatter_diagram::{Wall, opposite};
-use std::alloc::{AllocError, Global};
+use std::alloc::AllocError;
 use wall_auto::Side;
+use weight_bounds::MassTable;
 
 /// A half-wall at a point, and the side of its wall to which it is crossed: `Minus` for the part along the
-/// wall's direction, `Plus` for the part against it.
+/// wall's direction, `Plus` for the part against it. The wall is lent, and so are its tables.
 #[derive(Clone, Copy)]
 pub struct HalfWall<'a> {
     pub wall: &'a Wall,
+    pub powers: &'a PowerTable,
+    pub masses: &'a MassTable,
     pub crossing: Side,
 }
 
@@ -36,42 +43,48 @@ impl HalfWall<'_> {
 
 /// Adds the half-walls of a wall at a point on it: both, but of a ray that starts there the one along which
 /// it goes.
-fn push_halves<'a>(out: &mut Vec<HalfWall<'a>>, w: &'a Wall, p: &Point) -> Result<(), AllocError>
-    requires { IsTrue (is_on (wall_of w.now) (point_of p.now)) }
-    ensures halves { OnOk result (AddsHalves p.now w.now out.old.items out.new.items) }
-    ensures order { OnOk result (KeepsOrder w.now.function.order out.old.items out.new.items) }
+fn push_halves<'a>(
+    out: &mut Vec<HalfWall<'a>>,
+    w: &'a WallTables<'_>,
+    p: &Point,
+) -> Result<(), AllocError>
+    requires { IsTrue (is_on (wall_of w.now.wall.now) (point_of p.now)) }
+    ensures halves { OnOk result (AddsHalves p.now w.now.wall.now out.old.items out.new.items) }
+    ensures tables { OnOk result (KeepsTables w.now out.old.items out.new.items) }
 {
     let against = HalfWall {
-        wall: w,
+        wall: w.wall,
+        powers: &w.powers,
+        masses: &w.masses,
         crossing: Side::Plus,
     };
-    if w.starts_at(p) {
+    if w.wall.starts_at(p) {
         out.push(against)?;
         return Ok(());
     }
     out.push(HalfWall {
-        wall: w,
         crossing: Side::Minus,
+        ..against
     })?;
     out.push(against)?;
     Ok(())
 }
 
-/// The half-walls at a point of walls through it, wall by wall.
-fn unordered<'a>(
-    alloc: Global,
-    walls: &'a [Wall],
+/// Adds the half-walls at a point of those of the walls that are on it, wall by wall.
+fn push_run<'a>(
+    out: &mut Vec<HalfWall<'a>>,
+    run: &'a [WallTables<'_>],
     p: &Point,
-) -> Result<Vec<HalfWall<'a>>, AllocError>
-    requires { Every (λ w. IsTrue (is_on w (point_of p.now))) (walls_of walls.now) }
-    ensures halves { IfOk result (λ r. AreHalvesOf p.now walls.now r.items) }
-    ensures order { IfOk result (λ r. (n : ℕ) → AreOfOrder n walls.now → HalvesHaveOrder n r.items) }
+) -> Result<(), AllocError>
+    ensures halves { OnOk result (AddsRun p.now run.now out.old.items out.new.items) }
+    ensures tables { OnOk result (KeepsRunTables run.now out.old.items out.new.items) }
 {
-    let mut out = Vec::new(alloc);
-    for w in walls {
-        push_halves(&mut out, w, p)?;
+    for w in run {
+        if w.wall.holds(p) {
+            push_halves(out, w, p)?;
+        }
     }
-    Ok(out)
+    Ok(())
 }
 
 /// Sorts half-walls counter-clockwise from (1, 0); those along one direction stay in their order.
@@ -82,18 +95,44 @@ fn arrange(halves: &mut Vec<HalfWall>) -> Result<(), AllocError>
     Ok(())
 }
 
-/// The half-walls at a point of walls through it, counter-clockwise from (1, 0). Those along one direction
+/// Puts the half-walls at a point into `out`, run by run.
+///
+/// Only where a run's line holds the point are its walls looked at.
+fn unordered<'a>(
+    out: &mut Vec<HalfWall<'a>>,
+    tables: &'a LocalTables<'_>,
+    p: &Point,
+) -> Result<(), AllocError>
+    ensures halves { OnOk result (AreHalvesOf tables.now p.now out.new.items) }
+    ensures tables { OnOk result (HalvesHaveTables tables.now.order out.new.items) }
+    ensures proper { OnOk result
+        (Every (IsWall tables.now.diagram.order) (walls tables.now.diagram.diagram)) }
+{
+    out.clear();
+    let (lines, runs) = tables.runs();
+    // runs of one direction stand together, so the line through the point is made once for all of them
+    let mut through = RunLine::through(p, &Direction { a: 1, b: 0 });
+    for i in 0..lines.len() {
+        let line = &lines[i];
+        through = line.moved_to(p, through);
+        if line.is_at(&through) {
+            push_run(out, runs[i].as_slice(), p)?;
+        }
+    }
+    Ok(())
+}
+
+/// Puts the half-walls at a point into `out`, counter-clockwise from (1, 0). Those along one direction
 /// stand as their walls do.
 pub fn half_walls<'a>(
-    alloc: Global,
-    walls: &'a [Wall],
+    out: &mut Vec<HalfWall<'a>>,
+    tables: &'a LocalTables<'_>,
     p: &Point,
-) -> Result<Vec<HalfWall<'a>>, AllocError>
-    requires { Every (λ w. IsTrue (is_on w (point_of p.now))) (walls_of walls.now) }
-    ensures halves { IfOk result (λ r. AreHalfWalls p.now walls.now r.items) }
-    ensures order { IfOk result (λ r. (n : ℕ) → AreOfOrder n walls.now → HalvesHaveOrder n r.items) }
+) -> Result<(), AllocError>
+    ensures halves { OnOk result (AreHalfWalls tables.now p.now out.new.items) }
+    ensures tables { OnOk result (HalvesHaveTables tables.now.order out.new.items) }
 {
-    let mut halves = unordered(alloc, walls, p)?;
-    arrange(&mut halves)?;
-    Ok(halves)
+    unordered(out, tables, p)?;
+    arrange(out)?;
+    Ok(())
 }

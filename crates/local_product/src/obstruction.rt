@@ -1,36 +1,162 @@
 // The correction at a point.
 
-ghost use Rattle.std.specs.Prelude.{◌≤◌, IfOk, IfErr, OnOk, IfSome, MatchOption};
+ghost use Rattle.std.specs.Prelude.{◌≡◌, ◌≤◌, suc, length, IfOk, IfErr, OnOk, IfSome, MatchOption};
 ghost use Rattle.limits.specs.Limits.{highest_order};
+ghost use Rattle.trunc_series.specs.Shown.{exp_of};
+ghost use Rattle.vertex_lie.specs.Leading.{axis_of};
+ghost use Rattle.local_product.specs.LightPoint.{IsLightPoint};
+ghost use Rattle.local_product.specs.OneSide.{IsEdge};
 ghost use Rattle.local_product.specs.Obstruction.{IsObstructionAt, IsHeavyAt, IsLightAt, IsConsistentBefore, HasLightRays, IsStoppedByWeight};
+ghost use Rattle.local_product.specs.Workspace.{IsWorkspaceOf};
 
-use crate::product::light_images;
+use crate::carrying::{AXIS_X, AXIS_Y, highest_part};
+use crate::half_walls::{HalfWall, half_walls};
+use crate::one_side::edge_axis;
+use crate::product::is_light;
+use crate::tables::{LocalTables, tables_of};
+use crate::workspace::Workspace;
 use plane_geom::Point;
+use power_tables::PowerValues;
 use scatter_diagram::{Diagram, Stop, StopCause};
 use std::alloc::{AllocError, Global};
-use vertex_lie::{LieElement, leading};
+use trunc_series::Exp;
+use vertex_lie::{Axis, LieElement, leading, leading_from};
+use wall_auto::SumByDegree;
+
+/// The exponent that the axis is.
+fn exponent_of(axis: Axis) -> Exp
+    ensures { exp_of result ≡ axis_of axis }
+{
+    match axis {
+        Axis::X => AXIS_X,
+        Axis::Y => AXIS_Y,
+    }
+}
+
+/// The correction, from the image of one axis, to one side of which all walls on the point turn.
+fn from_one_image(
+    alloc: Global,
+    tables: &LocalTables,
+    p: &Point,
+    halves: &[HalfWall],
+    axis: Axis,
+    sum: &mut SumByDegree,
+    values: &mut PowerValues,
+) -> Result<LieElement, AllocError>
+    requires point { IsLightPoint tables.now p.now halves.now }
+    requires edge { IsEdge p.now axis halves.now }
+    requires parts { length sum.old ≡ suc tables.now.order }
+    ensures parts { length sum.new ≡ suc tables.now.order }
+    ensures correction { IfOk result
+        (IsObstructionAt tables.now.diagram p.now tables.now.order) }
+{
+    let order = tables.order();
+    let m = exponent_of(axis);
+    let image = highest_part(alloc, sum, values, order, halves, m)?;
+    let h = leading_from(alloc, axis, &image, order)?;
+    Ok(h)
+}
+
+/// The correction, from the images of both axes.
+fn from_both_images(
+    alloc: Global,
+    tables: &LocalTables,
+    p: &Point,
+    halves: &[HalfWall],
+    sum: &mut SumByDegree,
+    values: &mut PowerValues,
+) -> Result<LieElement, AllocError>
+    requires point { IsLightPoint tables.now p.now halves.now }
+    requires parts { length sum.old ≡ suc tables.now.order }
+    ensures parts { length sum.new ≡ suc tables.now.order }
+    ensures correction { IfOk result
+        (IsObstructionAt tables.now.diagram p.now tables.now.order) }
+{
+    let order = tables.order();
+    let x = highest_part(alloc, sum, values, order, halves, AXIS_X)?;
+    let y = highest_part(alloc, sum, values, order, halves, AXIS_Y)?;
+    let h = leading(alloc, &x, &y, order)?;
+    Ok(h)
+}
+
+/// The correction, from as few images as tell it.
+fn light_correction(
+    alloc: Global,
+    tables: &LocalTables,
+    p: &Point,
+    halves: &[HalfWall],
+    sum: &mut SumByDegree,
+    values: &mut PowerValues,
+) -> Result<LieElement, AllocError>
+    requires point { IsLightPoint tables.now p.now halves.now }
+    requires parts { length sum.old ≡ suc tables.now.order }
+    ensures parts { length sum.new ≡ suc tables.now.order }
+    ensures correction { IfOk result
+        (IsObstructionAt tables.now.diagram p.now tables.now.order) }
+{
+    match edge_axis(halves, p) {
+        Some(axis) => from_one_image(alloc, tables, p, halves, axis, sum, values),
+        None => from_both_images(alloc, tables, p, halves, sum, values),
+    }
+}
 
 /// The correction, or None where the weight is above 2^126.
-fn correction(
+fn correction<'a>(
     alloc: Global,
-    e: &Diagram,
+    tables: &'a LocalTables<'_>,
     p: &Point,
-    order: u32,
+    workspace: &mut Workspace<'a>,
 ) -> Result<Option<LieElement>, AllocError>
-    requires order { order ≤ highest_order }
-    requires some { 1 ≤ order }
-    requires consistent { IsConsistentBefore e.now p.now order }
+    requires some { 1 ≤ tables.now.order }
+    requires consistent { IsConsistentBefore tables.now.diagram p.now tables.now.order }
+    requires workspace { IsWorkspaceOf tables.now.order workspace.old }
+    ensures workspace { IsWorkspaceOf tables.now.order workspace.new }
     ensures weight { IfOk result
-        (λ o. MatchOption o (IsHeavyAt e.now p.now order) (λ h. IsLightAt e.now p.now order)) }
-    ensures correction { IfOk result (λ o. IfSome o (IsObstructionAt e.now p.now order)) }
-    ensures rays { IfOk result (λ o. IfSome o (λ h. HasLightRays e.now p.now order)) }
+        (λ o. MatchOption o (IsHeavyAt tables.now.diagram p.now tables.now.order)
+        (λ h. IsLightAt tables.now.diagram p.now tables.now.order)) }
+    ensures correction { IfOk result
+        (λ o. IfSome o (IsObstructionAt tables.now.diagram p.now tables.now.order)) }
+    ensures rays { IfOk result
+        (λ o. IfSome o (λ h. HasLightRays tables.now.diagram p.now tables.now.order)) }
 {
-    match light_images(alloc, e, p, order)? {
-        None => Ok(None),
-        Some((x, y)) => {
-            let h = leading(alloc, &x, &y, order)?;
-            Ok(Some(h))
-        }
+    let order = tables.order();
+    half_walls(&mut workspace.halves, tables, p)?;
+    let halves = workspace.halves.as_slice();
+    let sum = &mut workspace.sum;
+    let values = &mut workspace.values;
+    if !is_light(alloc, sum, values, order, halves)? {
+        return Ok(None);
+    }
+    let h = light_correction(alloc, tables, p, halves, sum, values)?;
+    Ok(Some(h))
+}
+
+/// The correction of degree `order` at a point, as `obstruction_at` answers it, where `order` is that of the
+/// tables. They can be lent to one point after another, and so can the memory of the workspace.
+pub fn obstruction_with<'a>(
+    alloc: Global,
+    tables: &'a LocalTables<'_>,
+    p: &Point,
+    workspace: &mut Workspace<'a>,
+) -> Result<LieElement, Stop>
+    requires some { 1 ≤ tables.now.order }
+    requires consistent { IsConsistentBefore tables.now.diagram p.now tables.now.order }
+    requires workspace { IsWorkspaceOf tables.now.order workspace.old }
+    ensures workspace { IsWorkspaceOf tables.now.order workspace.new }
+    ensures correction { IfOk result
+        (IsObstructionAt tables.now.diagram p.now tables.now.order) }
+    ensures rays { OnOk result (HasLightRays tables.now.diagram p.now tables.now.order) }
+    ensures light { OnOk result (IsLightAt tables.now.diagram p.now tables.now.order) }
+    ensures stop { IfErr result (IsStoppedByWeight tables.now.diagram p.now tables.now.order) }
+{
+    let order = tables.order();
+    match correction(alloc, tables, p, workspace) {
+        Err(_) => Err(Stop::Memory),
+        Ok(None) => Err(Stop::At {
+            order,
+            cause: StopCause::WeightTooLarge,
+        }),
+        Ok(Some(h)) => Ok(h),
     }
 }
 
@@ -47,12 +173,7 @@ pub fn obstruction_at(alloc: Global, e: &Diagram, p: &Point, order: u32) -> Resu
     ensures light { OnOk result (IsLightAt e.now p.now order) }
     ensures stop { IfErr result (IsStoppedByWeight e.now p.now order) }
 {
-    match correction(alloc, e, p, order) {
-        Err(_) => Err(Stop::Memory),
-        Ok(None) => Err(Stop::At {
-            order,
-            cause: StopCause::WeightTooLarge,
-        }),
-        Ok(Some(h)) => Ok(h),
-    }
+    let tables = tables_of(alloc, e, order)?;
+    let mut workspace = Workspace::new(alloc, order)?;
+    obstruction_with(alloc, &tables, p, &mut workspace)
 }

@@ -1,7 +1,7 @@
 // Functions in one variable. A weight is a sum of coefficients, so majorants need not tell which variables
 // they are in, and in one they have far fewer terms.
 
-ghost use Rattle.std.specs.Prelude.{◌≡◌, ◌<◌, ◌≤◌, ◌^◌, nat_abs, pos, IfOk};
+ghost use Rattle.std.specs.Prelude.{◌≡◌, ◌<◌, ◌≤◌, ◌^◌, nat_abs, pos, IfOk, OnOk};
 ghost use Rattle.limits.specs.Limits.{highest_order};
 ghost use Rattle.scattering.specs.Collections.{Every};
 ghost use Rattle.scattering.specs.Series.{absolute, degree};
@@ -50,7 +50,8 @@ fn terms_in_one_variable(
 
 /// |f| in one variable, where f is the wall's function.
 pub fn function_in_one_variable(alloc: Global, w: &Wall) -> Result<Series, AllocError>
-    ensures { IfOk result (IsInOneVariable w.now.function) }
+    ensures series { IfOk result (IsInOneVariable w.now.function) }
+    ensures order { OnOk result (w.now.function.order ≤ highest_order) }
 {
     let order = w.function.order();
     let terms = terms_in_one_variable(alloc, w.function.terms())?;

@@ -1,56 +1,28 @@
 // The weight and the images of z^(1,0) and z^(0,1) at a point.
 
-ghost use Rattle.std.specs.Prelude.{◌≡◌, ◌<◌, ◌≤◌, IfOk, OnOk, IfSome, MatchOption};
+ghost use Rattle.std.specs.Prelude.{◌≡◌, ◌<◌, ◌≤◌, suc, length, IfOk};
 ghost use Rattle.std.specs.Bool.{MatchBool};
 ghost use Rattle.limits.specs.Limits.{highest_order, largest_weight};
-ghost use Rattle.scattering.specs.Collections.{Every};
-ghost use Rattle.scattering.specs.Wall.{IsWall, walls};
 ghost use Rattle.scattering.specs.LocalProduct.{axis_x, axis_y};
 ghost use Rattle.trunc_series.specs.Shown.{IsSeriesOf};
-ghost use Rattle.scatter_diagram.specs.Proper.{IsTame};
-ghost use Rattle.local_product.specs.Shown.{halves_of, HalvesHaveOrder, carried, counted_weight, majorants_mass};
-ghost use Rattle.local_product.specs.Obstruction.{weight_at, image_at, IsHeavyAt, IsLightAt};
+ghost use Rattle.local_product.specs.Shown.{halves_of, counted_weight, majorants_mass};
+ghost use Rattle.local_product.specs.Tabled.{HalvesHaveTables};
+ghost use Rattle.local_product.specs.Workspace.{IsWorkspaceOf};
+ghost use Rattle.local_product.specs.Obstruction.{weight_at, image_at, IsLightAt};
 
-use crate::carrying::{image, majorant_mass};
+use crate::bound::is_surely_light;
+use crate::carrying::{AXIS_X, AXIS_Y, image};
 use crate::half_walls::{HalfWall, half_walls};
-use crate::local_walls::local_walls;
+use crate::majorants::weight_of;
+use crate::tables::{LocalTables, tables_of};
+use crate::workspace::Workspace;
 use limits::LARGEST_WEIGHT;
 use plane_geom::Point;
+use power_tables::PowerValues;
 use scatter_diagram::Diagram;
 use std::alloc::{AllocError, Global};
-use trunc_series::{Exp, Series};
-
-const AXIS_X: Exp = Exp { a: 1, b: 0 };
-
-const AXIS_Y: Exp = Exp { a: 0, b: 1 };
-
-/// The masses of the majorants of both images together, or 2^126 + 1 where that is above 2^126.
-pub(crate) fn weight_of(alloc: Global, order: u32, halves: &[HalfWall]) -> Result<u128, AllocError>
-    requires order { order ≤ highest_order }
-    requires functions { HalvesHaveOrder order halves.now }
-    ensures { IfOk result (λ w. w ≡ counted_weight (majorants_mass order (halves_of halves.now))) }
-{
-    let x = majorant_mass(alloc, order, halves, AXIS_X)?;
-    let y = majorant_mass(alloc, order, halves, AXIS_Y)?;
-    Ok((x + y).min(LARGEST_WEIGHT + 1))
-}
-
-/// The images of z^(1,0) and z^(0,1), where their majorants' masses sum to at most 2^126.
-pub(crate) fn images_of(
-    alloc: Global,
-    order: u32,
-    halves: &[HalfWall],
-) -> Result<(Series, Series), AllocError>
-    requires order { order ≤ highest_order }
-    requires functions { HalvesHaveOrder order halves.now }
-    requires light { majorants_mass order (halves_of halves.now) ≤ largest_weight }
-    ensures x { IfOk result (λ s. IsSeriesOf s.0 order (carried order halves.now axis_x)) }
-    ensures y { IfOk result (λ s. IsSeriesOf s.1 order (carried order halves.now axis_y)) }
-{
-    let x = image(alloc, order, halves, AXIS_X)?;
-    let y = image(alloc, order, halves, AXIS_Y)?;
-    Ok((x, y))
-}
+use trunc_series::Series;
+use wall_auto::SumByDegree;
 
 /// The weight at a point: the sum of all coefficients of both images, where each crossing multiplies z^m by
 /// (1/(2 - |f|))^|det(dir, m)| instead. Answers 2^126 + 1 where it is above 2^126.
@@ -58,9 +30,30 @@ pub fn weight_at(alloc: Global, e: &Diagram, p: &Point, order: u32) -> Result<u1
     requires { order ≤ highest_order }
     ensures { IfOk result (λ w. w ≡ counted_weight (weight_at e.now p.now order)) }
 {
-    let walls = local_walls(alloc, e, p, order)?;
-    let halves = half_walls(alloc, walls.as_slice(), p)?;
-    weight_of(alloc, order, halves.as_slice())
+    let tables = tables_of(alloc, e, order)?;
+    let mut workspace = Workspace::new(alloc, order)?;
+    weight_with(alloc, &tables, p, &mut workspace)
+}
+
+fn weight_with<'a>(
+    alloc: Global,
+    tables: &'a LocalTables<'_>,
+    p: &Point,
+    workspace: &mut Workspace<'a>,
+) -> Result<u128, AllocError>
+    requires { IsWorkspaceOf tables.now.order workspace.old }
+    ensures { IfOk result
+        (λ w. w ≡ counted_weight (weight_at tables.now.diagram p.now tables.now.order)) }
+{
+    half_walls(&mut workspace.halves, tables, p)?;
+    let halves = workspace.halves.as_slice();
+    weight_of(
+        alloc,
+        &mut workspace.sum,
+        &mut workspace.values,
+        tables.order(),
+        halves,
+    )
 }
 
 /// The images of z^(1,0) and z^(0,1) under the local product at a point, without terms of degree above the
@@ -76,40 +69,53 @@ pub fn images_at(
     ensures x { IfOk result (λ s. IsSeriesOf s.0 order (image_at e.now p.now order axis_x)) }
     ensures y { IfOk result (λ s. IsSeriesOf s.1 order (image_at e.now p.now order axis_y)) }
 {
-    let walls = local_walls(alloc, e, p, order)?;
-    let halves = half_walls(alloc, walls.as_slice(), p)?;
-    images_of(alloc, order, halves.as_slice())
+    let tables = tables_of(alloc, e, order)?;
+    let mut workspace = Workspace::new(alloc, order)?;
+    images_with(alloc, &tables, p, &mut workspace)
 }
 
-fn is_heavy(weight: u128) -> bool
-    ensures { MatchBool result (largest_weight < weight) (weight ≤ largest_weight) }
-{
-    weight > LARGEST_WEIGHT
-}
-
-/// The images of z^(1,0) and z^(0,1), or None where the weight is above 2^126.
-pub(crate) fn light_images(
+fn images_with<'a>(
     alloc: Global,
-    e: &Diagram,
+    tables: &'a LocalTables<'_>,
     p: &Point,
-    order: u32,
-) -> Result<Option<(Series, Series)>, AllocError>
-    requires { order ≤ highest_order }
-    ensures weight { IfOk result
-        (λ o. MatchOption o (IsHeavyAt e.now p.now order) (λ s. IsLightAt e.now p.now order)) }
-    ensures x { IfOk result
-        (λ o. IfSome o (λ s. IsSeriesOf s.0 order (image_at e.now p.now order axis_x))) }
-    ensures y { IfOk result
-        (λ o. IfSome o (λ s. IsSeriesOf s.1 order (image_at e.now p.now order axis_y))) }
-    ensures proper { OnOk result (Every (IsWall e.now.order) (walls e.now.diagram)) }
-    ensures tame { OnOk result (Every (λ w. Every IsTame w.function) (walls e.now.diagram)) }
+    workspace: &mut Workspace<'a>,
+) -> Result<(Series, Series), AllocError>
+    requires workspace { IsWorkspaceOf tables.now.order workspace.old }
+    requires light { IsLightAt tables.now.diagram p.now tables.now.order }
+    ensures x { IfOk result (λ s. IsSeriesOf s.0 tables.now.order
+        (image_at tables.now.diagram p.now tables.now.order axis_x)) }
+    ensures y { IfOk result (λ s. IsSeriesOf s.1 tables.now.order
+        (image_at tables.now.diagram p.now tables.now.order axis_y)) }
 {
-    let walls = local_walls(alloc, e, p, order)?;
-    let halves = half_walls(alloc, walls.as_slice(), p)?;
-    let weight = weight_of(alloc, order, halves.as_slice())?;
-    if is_heavy(weight) {
-        return Ok(None);
+    let order = tables.order();
+    half_walls(&mut workspace.halves, tables, p)?;
+    let halves = workspace.halves.as_slice();
+    let sum = &mut workspace.sum;
+    let values = &mut workspace.values;
+    let x = image(alloc, sum, values, order, halves, AXIS_X)?;
+    let y = image(alloc, sum, values, order, halves, AXIS_Y)?;
+    Ok((x, y))
+}
+
+/// Whether the weight is at most 2^126: by a bound of it, or where that fails by the weight itself.
+pub(crate) fn is_light(
+    alloc: Global,
+    sum: &mut SumByDegree,
+    values: &mut PowerValues,
+    order: u32,
+    halves: &[HalfWall],
+) -> Result<bool, AllocError>
+    requires order { order ≤ highest_order }
+    requires parts { length sum.old ≡ suc order }
+    requires tables { HalvesHaveTables order halves.now }
+    ensures parts { length sum.new ≡ suc order }
+    ensures light { IfOk result (λ b. MatchBool b
+        (majorants_mass order (halves_of halves.now) ≤ largest_weight)
+        (largest_weight < majorants_mass order (halves_of halves.now))) }
+{
+    if is_surely_light(order, halves) {
+        return Ok(true);
     }
-    let images = images_of(alloc, order, halves.as_slice())?;
-    Ok(Some(images))
+    let weight = weight_of(alloc, sum, values, order, halves)?;
+    Ok(weight <= LARGEST_WEIGHT)
 }

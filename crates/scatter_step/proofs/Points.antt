@@ -1,5 +1,5 @@
 -- The points of an order, and their corrections.
-use Rattle.std.proofs.Common.{◌≡◌, ℕ, ◌+◌, ◌<◌, ◌≤◌, ◌^◌, zero, suc, refl, sym, ap, subst, ◌∙◌, List, [], ◌∷◌, ◌++◌, map, length, get_or, take, inl, inr, arith}
+use Rattle.std.proofs.Common.{◌≡◌, ℕ, ◌+◌, ◌<◌, ◌≤◌, ◌^◌, refl, sym, ap, subst, ◌∙◌, List, [], ◌∷◌, ◌++◌, map, length, get_or, take}
 use Rattle.std.proofs.lemmas.List.{map_more}
 use Rattle.std.specs.Prelude.{IsTrue}
 use Rattle.scattering.specs.Collections.{In, Every, EveryPair}

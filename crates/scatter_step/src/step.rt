@@ -11,7 +11,7 @@ ghost use Rattle.scatter_step.specs.Orders.{IsNextCompletion, AreTasks, AreNextC
 
 use crate::Completed;
 use joint_finder::joints;
-use local_product::obstruction_at;
+use local_product::{Workspace, obstruction_with, tables_of};
 use plane_geom::Point;
 use ray_merge::merged;
 use scatter_diagram::{Diagram, Stop};
@@ -62,7 +62,8 @@ impl Completed {
     }
 }
 
-/// Each point with its correction of the order, or a stop where one of them is too heavy.
+/// Each point with its correction of the order, or a stop where one of them is too heavy. The tables of the
+/// walls' powers are made once, and lent to all points.
 fn corrections_at(
     alloc: Global,
     e: &Diagram,
@@ -75,9 +76,11 @@ fn corrections_at(
     ensures corrections { IfOk result (λ cs. AreCorrectionsAt e.now order points.now cs.items) }
     ensures stop { IfErr result (IsStoppedByPoint e.now order points.now) }
 {
+    let tables = tables_of(alloc, e, order)?;
+    let mut workspace = Workspace::new(alloc, order)?;
     let mut out = Vec::new(alloc);
     for p in points {
-        let h = obstruction_at(alloc, e, p, order)?;
+        let h = obstruction_with(alloc, &tables, p, &mut workspace)?;
         out.push((*p, h))?;
     }
     Ok(out)

@@ -4,10 +4,11 @@
 --     CanMultiply rule t row        t can be multiplied by each term of the row
 --     row_sum t keys values         these products, for the row of these keys and coefficients
 --     AddsRow rule old new t ..     the new terms stand for the old ones and these products
-use Rattle.std.specs.Prelude.{◌≡◌, ◌≤◌, ℕ, ℤ, List, ◌++◌, map, zip}
+--     IsPlaceOf f k i               the i-th term of f has the key k, or i is the number of terms
+use Rattle.std.specs.Prelude.{◌≡◌, ◌≤◌, ◌<◌, ℕ, ℤ, List, ◌++◌, map, zip, length, slice_index_or}
 use Rattle.limits.specs.Limits.{highest_order}
 use Rattle.scattering.specs.Collections.{In, Every}
-use Rattle.scattering.specs.Series.{Key, Sum, coef, degree, term_mul}
+use Rattle.scattering.specs.Series.{Key, Term, Sum, coef, degree, term_mul}
 use Rattle.trunc_series.specs.declared.key.Key.{Key as CodeKey}
 use Rattle.trunc_series.specs.declared.arithmetic.Arithmetic.{Arithmetic}
 use Rattle.trunc_series.specs.Shown.{key_of, term_of, sum_of}
@@ -48,3 +49,6 @@ row_sum t keys values = map (term_mul (term_of t)) (sum_of (zip keys values))
 -- the new terms stand for the old ones and the products of t with the row
 abbrev pub AddsRow : Arithmetic → Sum → Sum → CodeKey × ℤ → List CodeKey → List ℤ → Type 0
 AddsRow rule old new t keys values = StandsFor rule new (row_sum t keys values ++ old)
+
+abbrev pub IsPlaceOf : Sum → Key → ℕ → Type 0
+IsPlaceOf f k i = (i ≤ length f) × ((d : Term) → i < length f → (slice_index_or f i d).0 ≡ k)

@@ -18,7 +18,7 @@ fn same_powers(p: [u8; 8], q: [u8; 8]) -> bool
 
 /// Whether two keys are the same.
 #[inline(always)]
-pub(crate) fn same(k: &Key, l: &Key) -> bool
+pub fn same(k: &Key, l: &Key) -> bool
     ensures { IsTrue result → k.now ≡ l.now }
 {
     if k.exp.a != l.exp.a {

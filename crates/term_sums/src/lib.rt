@@ -10,4 +10,5 @@ mod places;
 mod sorting;
 mod sum;
 
+pub use keys::same;
 pub use sum::TermSum;

@@ -2,9 +2,10 @@
 
 ghost use Rattle.std.specs.Prelude.{◌≡◌, ◌∷◌, [], OnOk, IfOk, length, zip};
 ghost use Rattle.trunc_series.specs.Shown.{key_of, sum_of};
-ghost use Rattle.term_sums.specs.Sums.{AreKeptValues, IsKeptValue, StandsFor, IsSortedFor, CanMultiply, AddsRow};
+ghost use Rattle.term_sums.specs.Sums.{AreKeptValues, IsKeptValue, StandsFor, IsSortedFor, CanMultiply, AddsRow, IsPlaceOf};
 
 use crate::adding::{add_products, add_term};
+use crate::places::find;
 use crate::sorting::in_order;
 use std::alloc::{AllocError, Global};
 use std::marker::Model;
@@ -52,6 +53,13 @@ impl TermSum {
         ensures { sum_of result.now ≡ self.now }
     {
         self.terms.as_slice()
+    }
+
+    /// A place at which the key stands in the list of terms, or their number.
+    pub fn place(&self, key: &Key) -> usize
+        ensures { IsPlaceOf self.now (key_of key.now) result }
+    {
+        find(self.terms.as_slice(), self.places.as_slice(), key)
     }
 
     /// The terms as a sorted list: keys rise, like terms are added, and no coefficient is 0.

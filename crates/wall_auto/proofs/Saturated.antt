@@ -20,6 +20,30 @@ use Rattle.weight_theory.proofs.Masses.{counts, counted-exactly}
 use Rattle.wall_auto.specs.Laws.{MajorantTestsCrossing}
 use Rattle.wall_auto.proofs.Substituted.{substituted-kept}
 
+-- ---- masses
+
+read : (φ : Key → ℤ) (f : Sum) → pairing φ f ≡ pair φ f
+read φ [] = refl
+read φ (t ∷ f) = ap (λ r. t.1 *ℤ φ t.0 +ℤ r) (read φ f)
+
+counted : (k : ℕ) (f : Sum) → IsNonnegative f → pairing (counts k) f ≡ pos (mass_to k f)
+counted k f q = read (counts k) f ∙ counted-exactly k f q
+
+-- what is kept of the mass depends on what is kept of the coefficients
+pub same-mass : (k : ℕ) (F G : Sum) → IsNonnegative F → IsNonnegative G → ((x : Key) → kept Saturating (coef F x) ≡ kept Saturating (coef G x)) → min (mass_to k F) (2 ^ 126 + 1) ≡ min (mass_to k G) (2 ^ 126 + 1)
+same-mass k F G p q s =
+    whole (mass_to k F) (mass_to k G)
+    (ap (kept Saturating) (sym (counted k F p))
+    ∙ pairing-kept Saturating (counts k) (λ x. counts-keepable (nat_le (degree x) k)) (length F + length G) F G (omega arith) p q s
+    ∙ ap (kept Saturating) (counted k G q))
+  where
+    counts-keepable : (b : Bool) → pos 0 ≤ℤ cond b (pos 1) (pos 0)
+    counts-keepable true = omega (arith, ints)
+    counts-keepable false = omega (arith, ints)
+
+    whole : (a b : ℕ) → int_min (pos a) limit ≡ int_min (pos b) limit → min a (2 ^ 126 + 1) ≡ min b (2 ^ 126 + 1)
+    whole a b e = omega (arith, ints, clamps, e)
+
 -- ---- what is kept of a sum without coefficients below 0
 
 module _ (k : ℕ) (m : Seen) (G : Sum) (h : IsMajorantOf m k G) (p : IsNonnegative G) where
@@ -44,26 +68,8 @@ module _ (k : ℕ) (m : Seen) (G : Sum) (h : IsMajorantOf m k G) (p : IsNonnegat
   }
 
   -- its mass
-  read : (φ : Key → ℤ) (f : Sum) → pairing φ f ≡ pair φ f
-  read φ [] = refl
-  read φ (t ∷ f) = ap (λ r. t.1 *ℤ φ t.0 +ℤ r) (read φ f)
-
-  counted : (f : Sum) → IsNonnegative f → pairing (counts k) f ≡ pos (mass_to k f)
-  counted f q = read (counts k) f ∙ counted-exactly k f q
-
-  counts-keepable : (b : Bool) → pos 0 ≤ℤ cond b (pos 1) (pos 0)
-  counts-keepable true = omega (arith, ints)
-  counts-keepable false = omega (arith, ints)
-
   pub kept-mass : min (mass_to k m.terms) (2 ^ 126 + 1) ≡ min (mass_to k G) (2 ^ 126 + 1)
-  kept-mass =
-      whole (mass_to k m.terms) (mass_to k G)
-      (ap (kept Saturating) (sym (counted m.terms kept-nonnegative))
-      ∙ pairing-kept Saturating (counts k) (λ x. counts-keepable (nat_le (degree x) k)) (length m.terms + length G) m.terms G (omega arith) kept-nonnegative p same-kept
-      ∙ ap (kept Saturating) (counted G p))
-    where
-      whole : (a b : ℕ) → int_min (pos a) limit ≡ int_min (pos b) limit → min a (2 ^ 126 + 1) ≡ min b (2 ^ 126 + 1)
-      whole a b e = omega (arith, ints, clamps, e)
+  kept-mass = same-mass k m.terms G kept-nonnegative p same-kept
 
 -- ---- the condition of a crossing
 

@@ -1,6 +1,4 @@
+pub mod ByDegree
+pub mod Gains
 pub mod Sign
-pub mod Signs
-pub mod Crossed
-pub mod Expansion
-pub mod Known
 pub mod Laws

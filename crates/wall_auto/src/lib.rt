@@ -4,12 +4,12 @@
 //! modulo terms of degree above the order, where the sign s says which way the wall is crossed.
 #![tactic(auto)]
 
-mod coefficients;
+mod by_degree;
 mod crossing;
 mod laws;
-mod powers;
 mod side;
 
+pub use by_degree::SumByDegree;
 pub use crossing::{cross, cross_majorant};
 pub use laws::{crossings_are_automorphisms, majorants_test_crossings};
 pub use side::Side;

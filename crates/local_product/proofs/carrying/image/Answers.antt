@@ -1,24 +1,15 @@
-use Rattle.std.proofs.Common.{ℕ, ◌≤◌, ◌^◌, subst, sym, le_trans, arith}
-use Rattle.scattering.specs.Series.{absolute, mass_to}
-use Rattle.scattering.specs.LocalProduct.{cross, cross_majorant}
-use Rattle.plane_geom.specs.Shown.{vector_of as direction_of}
-use Rattle.trunc_series.specs.Shown.{exp_of, IsSeriesOf}
-use Rattle.wall_auto.specs.Sign.{sign}
-use Rattle.local_product.proofs.Stages.{function-near, order-at, stage-near, stage-mass, stage-next}
+use Rattle.trunc_series.specs.Shown.{exp_of, sum_of}
+use Rattle.local_product.specs.Shown.{carried}
+use Rattle.local_product.proofs.Images.{whole-valid, whole-series}
 use Rattle.local_product.proofs.carrying.image.Goals as goal
 
-pub cross-requires-clause-near : goal.cross-requires-clause-near
-cross-requires-clause-near c = stage-near c.args.order c.requires.order (exp_of c.args.m) c.requires.axis c.args.halves.now c.loop-h.h-index c.loop-h.g c.loop-h.invariant
+pub from_sorted-requires : goal.from_sorted-requires
+from_sorted-requires c =
+    whole-valid c.args.order c.requires.order (exp_of c.args.m) c.args.halves.now c.requires.mass (sum_of c.in_ok-terms.terms.items)
+    (c.in_ok-terms.ensures c.args.order (carried c.args.order c.args.halves.now (exp_of c.args.m)) c.in_ok-carry.ensures.image)
 
-pub cross-requires-clause-near_function : goal.cross-requires-clause-near_function
-cross-requires-clause-near_function c = function-near c.args.order c.h-item.result c.requires.order (order-at c.args.order c.args.halves.now c.loop-h.h-index c.h-item.result (omega arith) c.h-item.is c.requires.functions)
-
-pub cross-requires-clause-mass : goal.cross-requires-clause-mass
-cross-requires-clause-mass c =
-    subst (λ (n : ℕ). mass_to n (cross_majorant n (direction_of c.h-item.result.wall.now.dir) c.h-item.result.wall.now.function.terms (absolute c.loop-h.g.terms)) ≤ 2 ^ 126) (sym c.loop-h.invariant.order)
-    (le_trans (stage-mass c.args.order c.requires.order (exp_of c.args.m) c.requires.axis c.args.halves.now c.loop-h.h-index c.loop-h.g c.loop-h.invariant c.h-item.result (omega arith) c.h-item.is) c.requires.mass)
-
-pub loop-h-preserved : goal.loop-h-preserved
-loop-h-preserved c =
-    stage-next c.args.order c.requires.order (exp_of c.args.m) c.requires.axis c.args.halves.now c.loop-h.h-index c.loop-h.g c.loop-h.invariant c.h-item.result (omega arith) c.h-item.is c.in_ok-g-2.g
-    (subst (λ (n : ℕ). IsSeriesOf c.in_ok-g-2.g n (cross n (direction_of c.h-item.result.wall.now.dir) c.h-item.result.wall.now.function.terms (sign c.h-item.result.crossing) c.loop-h.g.terms)) c.loop-h.invariant.order c.in_ok-g-2.ensures)
+pub returns-clause-image : goal.returns-clause-image
+returns-clause-image c =
+    whole-series c.args.order c.requires.order (exp_of c.args.m) c.args.halves.now c.requires.mass (sum_of c.in_ok-terms.terms.items)
+    (c.in_ok-terms.ensures c.args.order (carried c.args.order c.args.halves.now (exp_of c.args.m)) c.in_ok-carry.ensures.image)
+    c.from_sorted.result c.from_sorted.ensures.order c.from_sorted.ensures.terms

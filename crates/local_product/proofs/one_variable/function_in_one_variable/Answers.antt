@@ -20,8 +20,8 @@ from_sorted-requires c =
     (subst (λ (f : Sum). IsKeptAs Wrapping c.order-order.result (sum_of c.in_ok-terms-2.terms.items) f) (ap sum_of c.as_slice.ensures.value ∙ c.in_ok-terms.ensures ∙ ap (λ f. in_one_variable (absolute f)) c.terms.ensures.terms) c.in_ok-terms-2.ensures) in
     subst (λ (n : ℕ). IsValid n (sum_of c.in_ok-terms-2.terms.items)) (sym c.order-order.ensures) (function-valid c.args.w.now (sum_of c.in_ok-terms-2.terms.items) h c.terms.ensures.valid.order)
 
-pub returns : goal.returns
-returns c =
+pub returns-clause-series : goal.returns-clause-series
+returns-clause-series c =
     let h = subst (λ (n : ℕ). IsKeptAs Wrapping n (sum_of c.in_ok-terms-2.terms.items) (in_one_variable (absolute c.args.w.now.function.terms))) c.order-order.ensures
     (subst (λ (f : Sum). IsKeptAs Wrapping c.order-order.result (sum_of c.in_ok-terms-2.terms.items) f) (ap sum_of c.as_slice.ensures.value ∙ c.in_ok-terms.ensures ∙ ap (λ f. in_one_variable (absolute f)) c.terms.ensures.terms) c.in_ok-terms-2.ensures) in
     let o = c.from_sorted.ensures.order ∙ c.order-order.ensures in

@@ -1,0 +1,14 @@
+use Rattle.std.proofs.Common.{◌≡◌, suc, length}
+use Rattle.trunc_series.specs.declared.arithmetic.Arithmetic.TheVariants.{Wrapping}
+use Rattle.trunc_series.specs.Shown.{exp_of}
+use Rattle.wall_auto.specs.ByDegree.{StandsByDegree, PartsGrowBy, AreKept}
+use Rattle.local_product.proofs.Stages.{image_to}
+use Rattle.local_product.proofs.carrying.carry.Given as goal
+
+abbrev pub invariant-loop-h : goal.invariant-loop-h
+invariant-loop-h l = record {
+  order : length l.sum ≡ suc l.order;
+  stands : StandsByDegree Wrapping l.order l.sum (image_to l.order (exp_of l.fn.m) l.halves l.h-index);
+  within : PartsGrowBy 1 64 l.sum;
+  kept : AreKept Wrapping l.sum;
+}

@@ -1,0 +1,15 @@
+pub mod AddedProducts
+pub mod Alike
+pub mod ColumnLists
+pub mod Combinations
+pub mod CombinedColumns
+pub mod Entries
+pub mod LinearParts
+pub mod LowerOrders
+pub mod Powers
+pub mod MadeParts
+pub mod Prepared
+pub mod ScaledColumns
+pub mod RowSteps
+pub mod SeenTables
+pub mod TableLaws

@@ -1,9 +1,0 @@
-use Rattle.std.proofs.Common.{◌≡◌, ◌≤◌, ◌∷◌, ◌-◌, replicate}
-use Rattle.std.specs.Prelude.{pos}
-use Rattle.wall_auto.proofs.coefficients.one.Given as goal
-
-abbrev pub invariant-loop : goal.invariant-loop
-invariant-loop l = record {
-  started : 1 ≤ l.counter;
-  items : l.out.items ≡ pos 1 ∷ replicate (l.counter - 1) (pos 0);
-}
