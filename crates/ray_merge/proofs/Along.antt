@@ -6,6 +6,7 @@ use Rattle.std.proofs.lemmas.List.Elements.{filter-append}
 use Rattle.sum_algebra.proofs.Ring.{nought, ring}
 use Rattle.sum_algebra.proofs.Integers.{positive-mul}
 use Rattle.sum_algebra.proofs.IntegerRing.{ints_ring, ◌:+◌, ◌:*◌, ◌:-◌, X, Y, Z}
+use Rattle.scattering.specs.Collections.{Every}
 use Rattle.scattering.specs.Series.{Exp, Term, Sum, mass_to, IsMultiple}
 use Rattle.scattering.specs.Plane.{IsDirection}
 use Rattle.plane_theory.proofs.Directions.{direction-not_origin}
@@ -46,6 +47,9 @@ mass_along-low n (t ∷ f) d = go (is_along d t.0.exp) refl (mass_along-low n f 
     go true e h = rw e (omega (arith, h))
     go false e h = rw e (omega (arith, h))
 
--- a term along d alone
-pub mass_along-one : (n : ℕ) (t : Term) (d : Exp) → IsDirection d → IsMultiple d t.0.exp → mass_along n (t ∷ []) d ≡ mass_to n (t ∷ [])
-mass_along-one n t d h m = rw (multiple-along d t.0.exp h m) refl
+-- terms along d alone
+pub mass_along-all : (n : ℕ) (f : Sum) (d : Exp) → IsDirection d → Every (λ t. IsMultiple d t.0.exp) f → mass_along n f d ≡ mass_to n f
+mass_along-all n [] d h m = refl
+mass_along-all n (t ∷ f) d h m =
+    let one : mass_along n (t ∷ []) d ≡ mass_to n (t ∷ []) = rw (multiple-along d t.0.exp h m.0) refl in
+    mass_along-append n (t ∷ []) f d ∙ ap (λ x. x + mass_along n f d) one ∙ ap (λ x. mass_to n (t ∷ []) + x) (mass_along-all n f d h m.1) ∙ sym (mass-append n (t ∷ []) f)

@@ -1,5 +1,5 @@
 -- The program's lists of rays, merged one ray at a time.
-use Rattle.std.proofs.Common.{◌≡◌, ℕ, ◌≤◌, ap, List, [], ◌∷◌, ◌++◌, arith, inl, inr, ◌⊎◌}
+use Rattle.std.proofs.Common.{◌≡◌, ℕ, ◌≤◌, ◌<◌, sym, subst, ap, ◌∙◌, length, get_or, List, [], ◌∷◌, ◌++◌, arith, inl, inr, ◌⊎◌}
 use Rattle.std.specs.declared.cmp.Ordering.{Ordering}
 use Rattle.std.specs.declared.cmp.Ordering.TheVariants.{Equal}
 use Rattle.scattering.specs.Collections.{Every}
@@ -12,7 +12,7 @@ use Rattle.trunc_series.proofs.Fronts.{first-of, first-has, second-has, first-ma
 use Rattle.scatter_diagram.specs.declared.wall.Wall.{Wall as CodeWall}
 use Rattle.scatter_diagram.specs.Shown.{wall_of, walls_of}
 use Rattle.scatter_diagram.specs.Listed.{AreOfOrder, AreRays}
-use Rattle.ray_merge.specs.Rays.{ray_order, IsJoinable, IsFirstRay, AreRaysTo, AreJoinable}
+use Rattle.ray_merge.specs.Rays.{ray_order, IsJoinable, IsFirstRay, AreRaysTo, AreFronts, AreJoinable}
 use Rattle.ray_merge.proofs.Steps.{IsRay, Merging, Merged, start, step, one-place, ended}
 
 -- ---- lists
@@ -24,11 +24,8 @@ rays-from : (ws : List CodeWall) → Every (λ r. r.kind ≡ Outgoing) (walls_of
 rays-from [] o r = tt
 rays-from (w ∷ ws) o r = ((o.0, w.at.reduced, r.live.0), rays-from ws o.1 (record { live = r.live.1; rises = r.rises.1 }))
 
-pub are-rays : (n : ℕ) (ws : List CodeWall) → AreRaysTo n ws → Every IsRay (walls_of ws)
+are-rays : (n : ℕ) (ws : List CodeWall) → AreRays n ws → Every IsRay (walls_of ws)
 are-rays n ws h = rays-from ws h.outgoing h.reduced
-
-pub up-to : (n : ℕ) (ws : List CodeWall) → AreRays n ws → AreRaysTo n ws
-up-to n ws h = record { order = Every-implies (λ (w : CodeWall). w.function.order ≡ n) (λ w. w.function.order ≤ n) ws (λ w e. omega (arith, e)) h.order; outgoing = h.outgoing; reduced = h.reduced }
 
 -- ---- the merge
 
@@ -50,8 +47,22 @@ joinable-rests n o xs ys h =
     (Every-implies (λ (r : Wall). Every (λ s. r.at ≡ s.at → r.dir ≡ s.dir → IsJoinable n r s) (walls_of ys)) (λ r. Every (λ s. r.at ≡ s.at → r.dir ≡ s.dir → IsJoinable n r s) (second_after o (walls_of ys))) (first_after o (walls_of xs))
     (λ r k. second-has (λ (s : Wall). r.at ≡ s.at → r.dir ≡ s.dir → IsJoinable n r s) o (walls_of ys) k) (first-has (λ (r : Wall). Every (λ s. r.at ≡ s.at → r.dir ≡ s.dir → IsJoinable n r s) (walls_of ys)) o (walls_of xs) h))
 
+-- ---- the first rays of two lists
+
+pub front-of : {A : Type 0} (xs : List A) (x : A) → 0 < length xs → x ≡ get_or xs 0 x → IsFirst x xs
+front-of [] x l e = absurd (omega (arith, l))
+front-of (y ∷ ys) x l e = (ys, λ i. sym e i ∷ ys)
+
+same-first : {A : Type 0} (x y : A) (xs : List A) → IsFirst x xs → IsFirst y xs → x ≡ y
+same-first x y xs f g = let q : x ∷ f.0 ≡ y ∷ g.0 = sym f.1 ∙ g.1 in cc
+
+pub fronts-order : (o : Ordering) (a b : List CodeWall) (x y : CodeWall) → AreFronts o a b → IsFirst x a → IsFirst y b → o ≡ ray_order (wall_of x) (wall_of y)
+fronts-order o a b x y f g h =
+    subst (λ (z : CodeWall). o ≡ ray_order (wall_of z) (wall_of y)) (same-first f.0 x a f.2 g)
+    (subst (λ (z : CodeWall). o ≡ ray_order (wall_of f.0) (wall_of z)) (same-first f.1 y b f.3 h) f.4)
+
 module _ (n : ℕ) (a b : List CodeWall) where
-  pub begun : AreRaysTo n a → AreRaysTo n b → Merging n (walls_of a) (walls_of b) [] (walls_of a) (walls_of b)
+  pub begun : AreRays n a → AreRays n b → Merging n (walls_of a) (walls_of b) [] (walls_of a) (walls_of b)
   begun ha hb = start n (walls_of a) (walls_of b) (are-rays n a ha) (are-rays n b hb) ha.reduced.rises hb.reduced.rises
 
   -- the first of two rays is taken

@@ -3,13 +3,14 @@
 use Rattle.std.proofs.Common.{◌≡◌, ◌≢◌, ℕ, ◌+◌, ◌≤◌, refl, sym, subst, ap, ◌∙◌, Bool, true, false, cond, List, [], ◌∷◌, ◌++◌, take, drop, arith, inl, inr}
 use Rattle.std.specs.Prelude.{ℤ, pos, ◌+ℤ◌, ◌&&◌, IsTrue}
 use Rattle.scattering.specs.Collections.{In, Every, EveryPair}
-use Rattle.scattering.specs.Series.{Exp, Key, Term, Sum, coef, coef_at, rest, key_eq, exp_eq, one, mass_to, IsMultiple}
+use Rattle.scattering.specs.Series.{Exp, Key, Term, Sum, coef, rest, key_eq, exp_eq, one, mass_to, IsMultiple}
 use Rattle.scattering.specs.Plane.{Point, IsDirection, point_eq}
 use Rattle.scattering.specs.Wall.{Wall, IsWall, is_live}
 use Rattle.scattering.specs.Completion.{IsReduced}
 use Rattle.scattering.specs.Correction.{ray_coef}
 use Rattle.scattering.proofs.Lists.{Every-at, Every-from_In, Every-implies, Every-left, Every-right, In-right}
 use Rattle.scattering.proofs.Keys.{key_eq-same, exp_eq-refl, point_eq-same}
+use Rattle.scattering.proofs.Coefficients.{coef-none}
 use Rattle.scattering.proofs.Pairing.{coef-append}
 use Rattle.scattering.proofs.Determined.{coef-find}
 use Rattle.plane_theory.proofs.Directions.{same-direction}
@@ -26,7 +27,7 @@ use Rattle.scatter_diagram.proofs.Walls.{are-walls}
 use Rattle.limits.specs.Limits.{largest_mass}
 use Rattle.ray_merge.specs.Additions.{IsLightAlong, terms_along}
 use Rattle.ray_merge.specs.Rays.{load, mass_along, IsRayOf, IsJoinable, AreJoinable, AreLoads}
-use Rattle.ray_merge.proofs.Along.{mass_along-append, mass_along-halves, mass_along-one}
+use Rattle.ray_merge.proofs.Along.{mass_along-append, mass_along-halves, mass_along-all}
 use Rattle.ray_merge.proofs.Functions.{mass-one}
 
 -- what rays have at places and positive multiples of their directions
@@ -71,29 +72,36 @@ of-keys P n p f ws h a =
 pub all-start : (n : ℕ) (p : Point) (f : Sum) (ws : List Wall) → HasTerms n p f ws → Every (λ w. w.at ≡ p) ws
 all-start n p f ws h = Every-from_In _ ws (λ r i. starts-at n p f ws h r i)
 
--- ---- one term
+-- ---- one ray
 
-pub one-term : (n : ℕ) (p : Point) (t : Term) (w : Wall) → IsWall n w → IsRayOf n p t w → HasTerms n p (t ∷ []) (w ∷ [])
-one-term n p t w iw h = record {
+pub one-ray : (n : ℕ) (p : Point) (f : Sum) (w : Wall) → IsWall n w → IsRayOf n p f w → HasTerms n p f (w ∷ [])
+one-ray n p f w iw h = record {
   walls = (iw, tt);
   reduced = record { live = (h.live, tt); rises = (tt, tt) };
-  terms = λ q d k id mk. add-zero (cond (point_eq w.at q && exp_eq w.dir d) (coef (rest w.function) k) (pos 0)) ∙ counted q d k id mk ∙ ap (λ c. cond (point_eq p q) c (pos 0)) (sym (add-zero (coef_at k t)));
-  loads = (let e = mass_along-one n t w.dir iw.direction h.dir in let l = h.load in omega (arith, e, l), tt);
+  terms = λ q d k id mk. add-zero (cond (point_eq w.at q && exp_eq w.dir d) (coef (rest w.function) k) (pos 0)) ∙ counted q d k id mk;
+  loads = (let e = mass_along-all n f w.dir iw.direction h.dir in let l = h.load in omega (arith, e, l), tt);
 }
   where
     self : (x y : Exp) → x ≡ y → exp_eq x y ≡ true
     self x y e = subst (λ (z : Exp). exp_eq x z ≡ true) e (exp_eq-refl x)
 
-    counted : (q : Point) (d : Exp) (k : Key) → IsDirection d → IsMultiple d k.exp → cond (point_eq w.at q && exp_eq w.dir d) (coef (rest w.function) k) (pos 0) ≡ cond (point_eq p q) (coef_at k t) (pos 0)
-    counted q d k id mk = ap (λ (x : Point). cond (point_eq x q && exp_eq w.dir d) (coef (rest w.function) k) (pos 0)) h.at ∙ go (point_eq p q) (exp_eq w.dir d) refl (key_eq t.0 k) refl
+    -- no key along another direction is one of f
+    other : (d : Exp) (k : Key) → IsDirection d → IsMultiple d k.exp → exp_eq w.dir d ≡ false → (u : Term) → IsMultiple w.dir u.0.exp → key_eq u.0 k ≡ false
+    other d k id mk e u mu = go (key_eq u.0 k) refl
       where
-        go : (a b : Bool) → exp_eq w.dir d ≡ b → (s : Bool) → key_eq t.0 k ≡ s → cond (a && b) (coef (rest w.function) k) (pos 0) ≡ cond a (coef_at k t) (pos 0)
-        go false b e s f = refl
-        go true true e s f = h.terms k
-        go true false e true f =
-            let same : w.dir ≡ d = same-direction w.dir d iw.direction id h.dir.0 mk.0 h.dir.1 mk.1 (sym h.dir.2 ∙ ap (λ (x : Key). x.exp) (key_eq-same t.0 k f) ∙ mk.2) in
+        go : (b : Bool) → key_eq u.0 k ≡ b → key_eq u.0 k ≡ false
+        go true q =
+            let same : w.dir ≡ d = same-direction w.dir d iw.direction id mu.0 mk.0 mu.1 mk.1 (sym mu.2 ∙ ap (λ (x : Key). x.exp) (key_eq-same u.0 k q) ∙ mk.2) in
             let y : exp_eq w.dir d ≡ true = self w.dir d same in absurd (cc)
-        go true false e false f = sym (rw f refl)
+        go false q = q
+
+    counted : (q : Point) (d : Exp) (k : Key) → IsDirection d → IsMultiple d k.exp → cond (point_eq w.at q && exp_eq w.dir d) (coef (rest w.function) k) (pos 0) ≡ cond (point_eq p q) (coef f k) (pos 0)
+    counted q d k id mk = ap (λ (x : Point). cond (point_eq x q && exp_eq w.dir d) (coef (rest w.function) k) (pos 0)) h.at ∙ go (point_eq p q) (exp_eq w.dir d) refl
+      where
+        go : (a b : Bool) → exp_eq w.dir d ≡ b → cond (a && b) (coef (rest w.function) k) (pos 0) ≡ cond a (coef f k) (pos 0)
+        go false b e = refl
+        go true true e = h.terms k
+        go true false e = sym (coef-none f k (Every-implies (λ (u : Term). IsMultiple w.dir u.0.exp) (λ u. key_eq u.0 k ≡ false) f (λ u m. other d k id mk e u m) h.dir))
 
 pub no-term : (n : ℕ) (p : Point) → HasTerms n p [] []
 no-term n p = record { walls = tt; reduced = record { live = tt; rises = tt }; terms = λ q d k id mk. none (point_eq p q); loads = tt }

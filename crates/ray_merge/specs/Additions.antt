@@ -7,7 +7,7 @@
 --     IsTameElement n h               no exponent of h is above 64·n
 --     terms_along d f          the terms of f whose exponents are positive multiples of d
 --     corrections_of cs        the corrections of the program
-use Rattle.std.specs.Prelude.{◌≡◌, ◌≢◌, ℕ, ◌*◌, ◌≤◌, ◌++◌, nat_abs, Bool, ◌&&◌, ℤ, pos, neg_ℤ, ◌*ℤ◌, int_le, List, [], ◌∷◌, map, filter}
+use Rattle.std.specs.Prelude.{◌≡◌, ◌≢◌, ◌⊎◌, ℕ, ◌*◌, ◌≤◌, ◌++◌, nat_abs, Bool, ◌&&◌, ℤ, pos, neg_ℤ, ◌*ℤ◌, int_le, List, [], ◌∷◌, map, filter}
 use Rattle.std.specs.Int.{IsGcd}
 use Rattle.scattering.specs.Collections.{Every, EveryPair}
 use Rattle.scattering.specs.Series.{Exp, Key, Term, Sum, int_eq, det, dot, degree, origin, one, mass_to}
@@ -37,6 +37,14 @@ pub record IsRayTerm (n : ℕ) (t : Term) : Type 0 where
   pub degree : degree t.0 ≡ n
   pub exponent : t.0.exp ≢ origin
   pub tame : IsTameKey n t.0
+
+-- all terms of f have the exponent e
+abbrev pub HaveExponent : Exp → Sum → Type 0
+HaveExponent e f = Every (λ t. t.0.exp ≡ e) f
+
+-- g is f with 1 before or behind
+abbrev pub IsWithOne : Sum → Sum → Type 0
+IsWithOne f g = (g ≡ one ++ f) ⊎ (g ≡ f ++ one)
 
 -- a correction of degree n alone, and whole
 pub record IsAddable (n : ℕ) (h : Lie) : Type 0 where

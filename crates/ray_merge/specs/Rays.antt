@@ -5,7 +5,9 @@
 --     IsJoinable n r s         rays of one direction with no common key but 1, light enough together
 --     IsJoined n r s w         w is the ray of r with the terms of s as well
 --     IsFirstRay n o r s w     w is the first of r and s, or both joined where they have one place
---     IsRayOf n p t w          w is the ray from p with 1 and the term t
+--     AreFronts o a b          the first rays of the lists a and b stand in the order o
+--     IsNextRay n o a b w      w is the first of these, or both joined where they have one place
+--     IsRayOf n p f w          w is the ray from p with 1 and the terms of f
 --     AreRaysTo n ws           outgoing rays with functions of order n at most, reduced
 --     AreLoads n m ws          none of the loads is above what m has for its direction
 use Rattle.std.specs.Prelude.{◌≡◌, ◌≢◌, ℕ, ◌+◌, ◌≤◌, ◌<◌, cond, IsTrue, ◌+ℤ◌, List, [], ◌∷◌}
@@ -13,13 +15,14 @@ use Rattle.std.specs.declared.cmp.Ordering.{Ordering}
 use Rattle.std.specs.declared.cmp.Ordering.TheVariants.{Less, Equal, Greater}
 use Rattle.limits.specs.Limits.{largest_mass}
 use Rattle.scattering.specs.Collections.{In, Every}
-use Rattle.scattering.specs.Series.{Exp, Key, Term, Sum, degree, coef, coef_at, rest, mass_to, IsMultiple}
+use Rattle.scattering.specs.Series.{Exp, Key, Term, Sum, degree, coef, rest, mass_to, IsMultiple}
 use Rattle.scattering.specs.Plane.{Point}
 use Rattle.scattering.specs.Wall.{Outgoing, Wall, is_live}
 use Rattle.scattering.specs.Completion.{ray_before, IsReduced}
 use Rattle.scattering.specs.Correction.{Lie, Corrections}
 use Rattle.scatter_diagram.specs.declared.wall.Wall.{Wall as CodeWall}
-use Rattle.scatter_diagram.specs.Shown.{walls_of}
+use Rattle.scatter_diagram.specs.Shown.{wall_of, walls_of}
+use Rattle.trunc_series.specs.Fronts.{IsFirst}
 use Rattle.ray_merge.specs.Additions.{AreAdded, terms_along}
 
 abbrev pub ray_order : Wall → Wall → Ordering
@@ -55,18 +58,26 @@ pub record IsJoined (n : ℕ) (r s w : Wall) : Type 0 where
   pub load : load n w ≤ load n r + load n s
   pub live : IsTrue (is_live r) → IsTrue (is_live w)
 
+-- the first rays of two lists stand in this order
+abbrev pub AreFronts : Ordering → List CodeWall → List CodeWall → Type 0
+AreFronts o a b = (x : CodeWall) × (y : CodeWall) × IsFirst x a × IsFirst y b × (o ≡ ray_order (wall_of x) (wall_of y))
+
 -- w is what comes first of two rays that stand in this order
 abbrev pub IsFirstRay : ℕ → Ordering → Wall → Wall → Wall → Type 0
 IsFirstRay n Less r s w = w ≡ r
 IsFirstRay n Equal r s w = IsJoined n r s w
 IsFirstRay n Greater r s w = w ≡ s
 
-pub record IsRayOf (n : ℕ) (p : Point) (t : Term) (w : Wall) : Type 0 where
+-- w is what comes first of two lists
+abbrev pub IsNextRay : ℕ → Ordering → List CodeWall → List CodeWall → CodeWall → Type 0
+IsNextRay n o a b w = (x y : CodeWall) → IsFirst x a → IsFirst y b → IsFirstRay n o (wall_of x) (wall_of y) (wall_of w)
+
+pub record IsRayOf (n : ℕ) (p : Point) (f : Sum) (w : Wall) : Type 0 where
   pub kind : w.kind ≡ Outgoing
   pub at : w.at ≡ p
-  pub dir : IsMultiple w.dir t.0.exp
-  pub terms : (k : Key) → coef (rest w.function) k ≡ coef_at k t
-  pub load : load n w ≤ mass_to n (t ∷ [])
+  pub dir : Every (λ t. IsMultiple w.dir t.0.exp) f
+  pub terms : (k : Key) → coef (rest w.function) k ≡ coef f k
+  pub load : load n w ≤ mass_to n f
   pub live : IsTrue (is_live w)
 
 pub record AreRaysTo (n : ℕ) (ws : List CodeWall) : Type 0 where

@@ -1,6 +1,6 @@
 // Lists of rays, merged, and the diagram of the next order.
 
-ghost use Rattle.std.specs.Prelude.{◌≡◌, ◌≢◌, ◌++◌, ◌+◌, ◌≤◌, [], ◌∷◌, map, cond, pos, ◌+ℤ◌, IfOk, OnOk, MatchResult};
+ghost use Rattle.std.specs.Prelude.{◌≡◌, ◌≢◌, ◌⊎◌, ◌+◌, ◌≤◌, [], ◌∷◌, map, cond, pos, ◌+ℤ◌, None, IfOk, IfSome, OnOk, MatchResult};
 ghost use Rattle.limits.specs.Limits.{highest_order};
 ghost use Rattle.scattering.specs.Collections.{Every, EveryPair, In};
 ghost use Rattle.scattering.specs.Series.{Exp, Key as SeriesKey, Sum, coef, IsMultiple};
@@ -8,91 +8,113 @@ ghost use Rattle.scattering.specs.Plane.{Point as PlanePoint, IsDirection, point
 ghost use Rattle.scattering.specs.Correction.{ray_coef, IsAdded, IsMerged, AreMergeable};
 ghost use Rattle.plane_geom.specs.Shown.{point_of};
 ghost use Rattle.trunc_series.specs.Shown.{sum_of};
+ghost use Rattle.trunc_series.specs.Fronts.{first_after, second_after};
 ghost use Rattle.scatter_diagram.specs.Shown.{wall_of, walls_of};
 ghost use Rattle.scatter_diagram.specs.Listed.{AreOfOrder, AreLines, AreRays};
 ghost use Rattle.ray_merge.specs.Additions.{AreAdded, IsRayTerm, IsAddable, IsTameElement, IsLight, IsLightAlong, corrections_of};
-ghost use Rattle.ray_merge.specs.Rays.{ray_order, AreRaysTo, AreJoinable, AreLoads, AreLoadsOfBoth, IsJoinable, IsFirstRay, HasNewTerms, mass_along};
+ghost use Rattle.ray_merge.specs.Rays.{AreRaysTo, AreFronts, AreJoinable, AreLoads, AreLoadsOfBoth, IsNextRay, HasNewTerms, mass_along};
 ghost use Rattle.ray_merge.specs.Answer.{AreLight, AreTame, StayWithin, IsMergedTo, IsStoppedAt};
 
 use crate::additions::added_terms;
 use crate::place::compare_places;
-use crate::ray::{joined, raised, ray_of};
+use crate::ray::{have_exponent, joined, raised, ray_of};
 use limits::MOST_WALLS;
 use plane_geom::Point;
 use scatter_diagram::{Diagram, Initial, Stop, StopCause, Wall, cut_walls};
 use std::alloc::{AllocError, Global};
 use std::cmp::Ordering;
+use std::collections::VecDeque;
 use trunc_series::Key;
-use trunc_series::sorted_terms::Rests;
 use vertex_lie::LieElement;
 
-/// Appends the rays, read at a higher order.
-fn push_raised(
-    alloc: Global,
-    order: u32,
-    out: &mut Vec<Wall>,
-    rays: &[Wall],
-) -> Result<(), AllocError>
+/// The rays, read at a higher order.
+fn raised_rays(alloc: Global, order: u32, rays: &[Wall]) -> Result<Vec<Wall>, AllocError>
     requires order { order ≤ highest_order }
-    requires lower { Every (λ w. w.function.order ≤ order) rays.now }
-    ensures walls { OnOk result
-        (walls_of out.new.items ≡ walls_of out.old.items ++ walls_of rays.now) }
-    ensures order { OnOk result (AreOfOrder order out.old.items → AreOfOrder order out.new.items) }
+    requires rays { AreRaysTo order rays.now }
+    ensures walls { IfOk result (λ r. walls_of r.items ≡ walls_of rays.now) }
+    ensures rays { IfOk result (λ r. AreRays order r.items) }
 {
+    let mut out = Vec::with_capacity(alloc, rays.len())?;
     for r in rays {
         out.push(raised(alloc, order, r)?)?;
     }
-    Ok(())
+    Ok(out)
 }
 
-/// What comes first of two rays that stand so: one of them, or both joined where they have one start and
-/// direction.
-fn first_ray(
+/// How the first rays of two lists stand, while both have some left.
+fn fronts_order(a: &VecDeque<Wall>, b: &VecDeque<Wall>) -> Option<Ordering>
+    ensures fronts { IfSome result (λ o. AreFronts o a.now.items b.now.items) }
+    ensures ended { result ≡ None → (a.now.items ≡ []) ⊎ (b.now.items ≡ []) }
+{
+    match (a.front(), b.front()) {
+        (Some(x), Some(y)) => Some(compare_places(x, y)),
+        _ => None,
+    }
+}
+
+/// Takes the first ray of a list that has one.
+fn take_first(rays: &mut VecDeque<Wall>) -> Wall
+    requires { rays.old.items ≢ [] }
+    ensures { rays.old.items ≡ result ∷ rays.new.items }
+{
+    rays.pop_front().unwrap()
+}
+
+/// Takes what comes first of two lists whose first rays stand so: one of these, or both joined where they
+/// have one start and direction.
+fn take_next(
     alloc: Global,
     order: u32,
     place: Ordering,
-    x: &Wall,
-    y: &Wall,
+    a: &mut VecDeque<Wall>,
+    b: &mut VecDeque<Wall>,
 ) -> Result<Wall, AllocError>
     requires order { order ≤ highest_order }
-    requires left { x.now.function.order ≤ order }
-    requires right { y.now.function.order ≤ order }
-    requires place { place ≡ ray_order (wall_of x.now) (wall_of y.now) }
-    requires joinable { place ≡ Ordering.Equal
-        → IsJoinable order (wall_of x.now) (wall_of y.now) }
-    ensures first { IfOk result
-        (λ w. IsFirstRay order place (wall_of x.now) (wall_of y.now) (wall_of w)) }
+    requires left { AreOfOrder order a.old.items }
+    requires right { AreOfOrder order b.old.items }
+    requires fronts { AreFronts place a.old.items b.old.items }
+    requires joinable { AreJoinable order (walls_of a.old.items) (walls_of b.old.items) }
+    ensures next { IfOk result (λ w. IsNextRay order place a.old.items b.old.items w) }
     ensures order { IfOk result (λ w. w.function.order ≡ order) }
+    ensures first { OnOk result (a.new.items ≡ first_after place a.old.items) }
+    ensures second { OnOk result (b.new.items ≡ second_after place b.old.items) }
 {
     match place {
-        Ordering::Less => raised(alloc, order, x),
-        Ordering::Equal => joined(alloc, order, x, y),
-        Ordering::Greater => raised(alloc, order, y),
+        Ordering::Less => Ok(take_first(a)),
+        Ordering::Equal => {
+            let (x, y) = (take_first(a), take_first(b));
+            joined(alloc, order, &x, &y)
+        }
+        Ordering::Greater => Ok(take_first(b)),
     }
 }
 
 /// Two lists of rays in order as one, where rays of one start and direction are joined.
-fn merged_rays(alloc: Global, order: u32, a: &[Wall], b: &[Wall]) -> Result<Vec<Wall>, AllocError>
+fn merged_rays(
+    alloc: Global,
+    order: u32,
+    a: Vec<Wall>,
+    b: Vec<Wall>,
+) -> Result<Vec<Wall>, AllocError>
     requires order { order ≤ highest_order }
-    requires left { AreRaysTo order a.now }
-    requires right { AreRaysTo order b.now }
-    requires joinable { AreJoinable order (walls_of a.now) (walls_of b.now) }
+    requires left { AreRays order a.items }
+    requires right { AreRays order b.items }
+    requires joinable { AreJoinable order (walls_of a.items) (walls_of b.items) }
     ensures rays { IfOk result (λ r. AreRays order r.items) }
     ensures terms { IfOk result
         (λ r. (p : PlanePoint) (d : Exp) (k : SeriesKey) → ray_coef (walls_of r.items) p d k ≡
-        ray_coef (walls_of a.now) p d k +ℤ ray_coef (walls_of b.now) p d k) }
+        ray_coef (walls_of a.items) p d k +ℤ ray_coef (walls_of b.items) p d k) }
     ensures loads { IfOk result
-        (λ r. AreLoadsOfBoth order (walls_of a.now) (walls_of b.now) (walls_of r.items)) }
+        (λ r. AreLoadsOfBoth order (walls_of a.items) (walls_of b.items) (walls_of r.items)) }
 {
     let mut out = Vec::with_capacity(alloc, a.len() + b.len())?;
-    let mut rests = Rests::new(a, b);
-    while let Some((x, y)) = rests.fronts() {
-        let place = compare_places(x, y);
-        out.push(first_ray(alloc, order, place, x, y)?)?;
-        rests.advance(place);
+    let mut first = VecDeque::from(a);
+    let mut second = VecDeque::from(b);
+    while let Some(place) = fronts_order(&first, &second) {
+        out.push(take_next(alloc, order, place, &mut first, &mut second)?)?;
     }
-    push_raised(alloc, order, &mut out, rests.first)?;
-    push_raised(alloc, order, &mut out, rests.second)?;
+    out.append(&mut Vec::from(first))?;
+    out.append(&mut Vec::from(second))?;
     Ok(out)
 }
 
@@ -118,12 +140,15 @@ fn rays_of(
 {
     match terms {
         [] => Ok(Vec::new(alloc)),
-        [term] => Ok(vec![in alloc; ray_of(alloc, order, at, term)?]?),
+        [term] => Ok(vec![in alloc; ray_of(alloc, order, at, &term.0, terms)?]?),
+        [first, ..] if have_exponent(terms, &first.0) => {
+            Ok(vec![in alloc; ray_of(alloc, order, at, &first.0, terms)?]?)
+        }
         _ => {
             let (left, right) = terms.split_at(terms.len() / 2);
             let left = rays_of(alloc, order, at, left)?;
             let right = rays_of(alloc, order, at, right)?;
-            merged_rays(alloc, order, left.as_slice(), right.as_slice())
+            merged_rays(alloc, order, left, right)
         }
     }
 }
@@ -203,8 +228,8 @@ pub fn merged(
 {
     let lines = cut_walls(alloc, order, initial.lines())?;
     let added = added_rays(alloc, order, corrections)?;
-    let old = e.copied_rays()?;
-    let rays = merged_rays(alloc, order, old.as_slice(), added.as_slice())?;
+    let old = raised_rays(alloc, order, e.copied_rays()?.as_slice())?;
+    let rays = merged_rays(alloc, order, old, added)?;
     if lines.len() + rays.len() > MOST_WALLS {
         return Err(Stop::At {
             order,

@@ -9,8 +9,7 @@ use Rattle.scatter_diagram.specs.Shown.{wall_of, walls_of}
 use Rattle.scatter_diagram.proofs.Walls.{is-wall}
 use Rattle.ray_merge.specs.Additions.{IsRayTerm}
 use Rattle.ray_merge.specs.Rays.{AreLoads, mass_along}
-use Rattle.ray_merge.proofs.RayLists.{up-to}
-use Rattle.ray_merge.proofs.Terms.{CountsTerms, one-term, joinable, both-terms, has-terms, halves-each, halves-apart, halves-light, loads-of-halves}
+use Rattle.ray_merge.proofs.Terms.{CountsTerms, one-ray, joinable, both-terms, has-terms, halves-each, halves-apart, halves-light, loads-of-halves}
 use Rattle.ray_merge.proofs.merge.+rays_of.Goals as goal
 
 pub rays_of-requires : goal.rays_of-requires
@@ -45,42 +44,45 @@ rays_of-requires-in_default t c =
       ),
     )
 
-pub merged_rays-requires-clause-left : goal.merged_rays-requires-clause-left
-merged_rays-requires-clause-left t c = rw c.as_slice.ensures.value (up-to c.args.order _ c.in_ok-left-in_default.ensures.rays)
-
-pub merged_rays-requires-clause-right : goal.merged_rays-requires-clause-right
-merged_rays-requires-clause-right t c = rw c.as_slice-in_default.ensures.value (up-to c.args.order _ c.in_ok-right-in_default.ensures.rays)
-
 pub merged_rays-requires-clause-joinable : goal.merged_rays-requires-clause-joinable
 merged_rays-requires-clause-joinable t c =
-    rw (c.as_slice.ensures.value, c.as_slice-in_default.ensures.value)
-    (joinable c.args.order (point_of c.args.at.now) (sum_of c.split_at.result.0.now) (sum_of c.split_at.result.1.now) (walls_of c.in_ok-left-in_default.left.items) (walls_of c.in_ok-right-in_default.right.items)
+    joinable c.args.order (point_of c.args.at.now) (sum_of c.split_at.result.0.now) (sum_of c.split_at.result.1.now) (walls_of c.in_ok-left-in_default.left.items) (walls_of c.in_ok-right-in_default.right.items)
     (has-terms c.args.order (point_of c.args.at.now) (sum_of c.split_at.result.0.now) c.in_ok-left-in_default.left.items c.in_ok-left-in_default.ensures.rays c.in_ok-left-in_default.ensures.terms c.in_ok-left-in_default.ensures.loads)
     (has-terms c.args.order (point_of c.args.at.now) (sum_of c.split_at.result.1.now) c.in_ok-right-in_default.right.items c.in_ok-right-in_default.ensures.rays c.in_ok-right-in_default.ensures.terms c.in_ok-right-in_default.ensures.loads)
     (rw (c.split_at.ensures.front, c.split_at.ensures.back, ← sum_of-halves c.args.terms.now (length c.args.terms.now / 2)) c.requires.distinct)
-    (rw (c.split_at.ensures.front, c.split_at.ensures.back, ← sum_of-halves c.args.terms.now (length c.args.terms.now / 2)) c.requires.light))
+    (rw (c.split_at.ensures.front, c.split_at.ensures.back, ← sum_of-halves c.args.terms.now (length c.args.terms.now / 2)) c.requires.light)
 
 pub returns-in_ok-vec-in-len1-clause-terms : goal.returns-in_ok-vec-in-len1-clause-terms
 returns-in_ok-vec-in-len1-clause-terms t c =
-    rw (c.in_ok-vec-in-len1.ensures.items, alone c.args.terms.now c.in-len1.len_at_least c.in-len1.len_below)
-    (one-term c.args.order (point_of c.args.at.now) (term_of (at c.args.terms.now 0)) (wall_of c.in_ok-ray_of-in-len1.field-0) (subst (λ (n : ℕ). IsWall n (wall_of c.in_ok-ray_of-in-len1.field-0)) c.in_ok-ray_of-in-len1.ensures.order (is-wall c.in_ok-ray_of-in-len1.field-0)) c.in_ok-ray_of-in-len1.ensures.wall).terms
+    rw c.in_ok-vec-in-len1.ensures.items
+    (one-ray c.args.order (point_of c.args.at.now) (sum_of c.args.terms.now) (wall_of c.in_ok-ray_of-in-len1.field-0) (subst (λ (n : ℕ). IsWall n (wall_of c.in_ok-ray_of-in-len1.field-0)) c.in_ok-ray_of-in-len1.ensures.order (is-wall c.in_ok-ray_of-in-len1.field-0)) c.in_ok-ray_of-in-len1.ensures.wall).terms
 
 pub returns-in_ok-vec-in-len1-clause-loads : goal.returns-in_ok-vec-in-len1-clause-loads
 returns-in_ok-vec-in-len1-clause-loads t c =
-    rw (c.in_ok-vec-in-len1.ensures.items, alone c.args.terms.now c.in-len1.len_at_least c.in-len1.len_below)
-    (one-term c.args.order (point_of c.args.at.now) (term_of (at c.args.terms.now 0)) (wall_of c.in_ok-ray_of-in-len1.field-0) (subst (λ (n : ℕ). IsWall n (wall_of c.in_ok-ray_of-in-len1.field-0)) c.in_ok-ray_of-in-len1.ensures.order (is-wall c.in_ok-ray_of-in-len1.field-0)) c.in_ok-ray_of-in-len1.ensures.wall).loads
+    rw c.in_ok-vec-in-len1.ensures.items
+    (one-ray c.args.order (point_of c.args.at.now) (sum_of c.args.terms.now) (wall_of c.in_ok-ray_of-in-len1.field-0) (subst (λ (n : ℕ). IsWall n (wall_of c.in_ok-ray_of-in-len1.field-0)) c.in_ok-ray_of-in-len1.ensures.order (is-wall c.in_ok-ray_of-in-len1.field-0)) c.in_ok-ray_of-in-len1.ensures.wall).loads
+
+pub returns-in_ok-vec-in-len1-up-clause-terms : goal.returns-in_ok-vec-in-len1-up-clause-terms
+returns-in_ok-vec-in-len1-up-clause-terms t c =
+    rw c.in_ok-vec-in-len1-up.ensures.items
+    (one-ray c.args.order (point_of c.args.at.now) (sum_of c.args.terms.now) (wall_of c.in_ok-ray_of-in-len1-up.field-0) (subst (λ (n : ℕ). IsWall n (wall_of c.in_ok-ray_of-in-len1-up.field-0)) c.in_ok-ray_of-in-len1-up.ensures.order (is-wall c.in_ok-ray_of-in-len1-up.field-0)) c.in_ok-ray_of-in-len1-up.ensures.wall).terms
+
+pub returns-in_ok-vec-in-len1-up-clause-loads : goal.returns-in_ok-vec-in-len1-up-clause-loads
+returns-in_ok-vec-in-len1-up-clause-loads t c =
+    rw c.in_ok-vec-in-len1-up.ensures.items
+    (one-ray c.args.order (point_of c.args.at.now) (sum_of c.args.terms.now) (wall_of c.in_ok-ray_of-in-len1-up.field-0) (subst (λ (n : ℕ). IsWall n (wall_of c.in_ok-ray_of-in-len1-up.field-0)) c.in_ok-ray_of-in-len1-up.ensures.order (is-wall c.in_ok-ray_of-in-len1-up.field-0)) c.in_ok-ray_of-in-len1-up.ensures.wall).loads
 
 pub returns-in_ok-right-in_default-clause-terms : goal.returns-in_ok-right-in_default-clause-terms
 returns-in_ok-right-in_default-clause-terms t c =
     IfOk-weaker c.merged_rays.result _ (λ r. CountsTerms (point_of c.args.at.now) (sum_of c.args.terms.now) (walls_of r.items))
     (λ r h. rw (sum_of-halves c.args.terms.now (length c.args.terms.now / 2), ← c.split_at.ensures.front, ← c.split_at.ensures.back)
     (both-terms (point_of c.args.at.now) (sum_of c.split_at.result.0.now) (sum_of c.split_at.result.1.now) (walls_of c.in_ok-left-in_default.left.items) (walls_of c.in_ok-right-in_default.right.items) (walls_of r.items)
-    c.in_ok-left-in_default.ensures.terms c.in_ok-right-in_default.ensures.terms (rw (← c.as_slice.ensures.value, ← c.as_slice-in_default.ensures.value) h)))
+    c.in_ok-left-in_default.ensures.terms c.in_ok-right-in_default.ensures.terms h))
     c.merged_rays.ensures.terms
 
 pub returns-in_ok-right-in_default-clause-loads : goal.returns-in_ok-right-in_default-clause-loads
 returns-in_ok-right-in_default-clause-loads t c =
     IfOk-weaker c.merged_rays.result _ (λ r. AreLoads c.args.order (mass_along c.args.order (sum_of c.args.terms.now)) (walls_of r.items))
     (λ r h. loads-of-halves c.args.order c.args.terms.now (length c.args.terms.now / 2) (walls_of r.items) (rw (c.split_at.ensures.front, c.split_at.ensures.back) at
-    (h (mass_along c.args.order (sum_of c.split_at.result.0.now)) (mass_along c.args.order (sum_of c.split_at.result.1.now)) (rw c.as_slice.ensures.value c.in_ok-left-in_default.ensures.loads) (rw c.as_slice-in_default.ensures.value c.in_ok-right-in_default.ensures.loads))))
+    (h (mass_along c.args.order (sum_of c.split_at.result.0.now)) (mass_along c.args.order (sum_of c.split_at.result.1.now)) c.in_ok-left-in_default.ensures.loads c.in_ok-right-in_default.ensures.loads)))
     c.merged_rays.ensures.loads

@@ -13,9 +13,9 @@ use Rattle.ray_merge.proofs.merge.merged.Goals as goal
 
 pub merged_rays-requires-clause-joinable : goal.merged_rays-requires-clause-joinable
 merged_rays-requires-clause-joinable c =
-    rw (c.as_slice.ensures.value, c.as_slice-2.ensures.value)
-    (next-joinable c.args.order c.args.e.now.order (corrections_of c.args.corrections.now) c.in_ok-old.old.items c.in_ok-added.added.items c.requires.next c.in_ok-old.ensures.rays c.in_ok-added.ensures.rays c.in_ok-added.ensures.terms
-    (rw c.in_ok-old.ensures.walls c.requires.within))
+    rw (c.in_ok-old.ensures.walls, c.as_slice.ensures.value)
+    (next-joinable c.args.order c.args.e.now.order (corrections_of c.args.corrections.now) c.in_ok-copied_rays.field-0.items c.in_ok-added.added.items c.requires.next c.in_ok-copied_rays.ensures.rays c.in_ok-added.ensures.rays c.in_ok-added.ensures.terms
+    (rw c.in_ok-copied_rays.ensures.walls c.requires.within))
 
 pub added_rays-requires-clause-within : goal.added_rays-requires-clause-within
 added_rays-requires-clause-within c = Every-implies (λ b. StaysWithin c.args.order b.0 b.1 c.args.e.now.diagram.rays) (λ b. (f : Sum) → AreAdded b.1 f → IsLightAlong c.args.order f) (corrections_of c.args.corrections.now) (λ b h. h.new) c.requires.within
@@ -32,7 +32,7 @@ returns-then-len-gt-MOST_WALLS c =
     let n = number c.in_ok-lines.lines.items c.in_ok-rays.rays.items in
     let m =
     next-merged c.args.initial.now.lines c.args.e.now.diagram (corrections_of c.args.corrections.now) c.args.order (walls_of c.in_ok-lines.lines.items) (walls_of c.in_ok-added.added.items) c.in_ok-rays.rays.items
-    (rw c.lines.ensures.walls at c.in_ok-lines.ensures.walls) c.in_ok-rays.ensures.rays (rw (c.as_slice.ensures.value, c.as_slice-2.ensures.value, c.in_ok-old.ensures.walls) at c.in_ok-rays.ensures.terms) c.in_ok-added.ensures.added in
+    (rw c.lines.ensures.walls at c.in_ok-lines.ensures.walls) c.in_ok-rays.ensures.rays (rw (c.in_ok-old.ensures.walls, c.as_slice.ensures.value, c.in_ok-copied_rays.ensures.walls) at c.in_ok-rays.ensures.terms) c.in_ok-added.ensures.added in
     (refl, refl, (record { initial = walls_of c.in_ok-lines.lines.items; rays = walls_of c.in_ok-rays.rays.items }, m, omega (arith, n, c.len.ensures, c.len-2.ensures, c.in_ok-lines.lines.ok, c.in_ok-rays.rays.ok, c.if-len-gt-MOST_WALLS.true)))
 
 pub returns : goal.returns
@@ -40,5 +40,5 @@ returns c =
     let n = number c.in_ok-lines.lines.items c.in_ok-rays.rays.items in
     let m =
     next-merged c.args.initial.now.lines c.args.e.now.diagram (corrections_of c.args.corrections.now) c.args.order (walls_of c.in_ok-lines.lines.items) (walls_of c.in_ok-added.added.items) c.in_ok-rays.rays.items
-    (rw c.lines.ensures.walls at c.in_ok-lines.ensures.walls) c.in_ok-rays.ensures.rays (rw (c.as_slice.ensures.value, c.as_slice-2.ensures.value, c.in_ok-old.ensures.walls) at c.in_ok-rays.ensures.terms) c.in_ok-added.ensures.added in
+    (rw c.lines.ensures.walls at c.in_ok-lines.ensures.walls) c.in_ok-rays.ensures.rays (rw (c.in_ok-old.ensures.walls, c.as_slice.ensures.value, c.in_ok-copied_rays.ensures.walls) at c.in_ok-rays.ensures.terms) c.in_ok-added.ensures.added in
     rw c.in_ok-from_walls.ensures record { order = refl; merged = m; few = omega (arith, n, c.len.ensures, c.len-2.ensures, c.in_ok-lines.lines.ok, c.in_ok-rays.rays.ok, c.if-len-gt-MOST_WALLS.false) }
