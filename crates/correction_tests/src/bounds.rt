@@ -68,6 +68,16 @@ fn cubes_have(alloc: Global, order: u32, weight: u128) -> Result<bool, Fail>
     Ok(bound_of(&x, &y, order, true) == Some(weight))
 }
 
+// Whether these are those bounds to the orders 0 to 3.
+fn all_cubes_have(alloc: Global, weights: &[u128; 4]) -> Result<bool, Fail> {
+    for order in 0..4 {
+        if !cubes_have(alloc, order, weights[order as usize])? {
+            return Ok(false);
+        }
+    }
+    Ok(true)
+}
+
 // Whether this is the bound after two half-walls of a line along (1, 2).
 fn aslant_has(alloc: Global, order: u32, weight: u128) -> Result<bool, Fail>
     requires { order ≤ highest_order }
@@ -100,10 +110,7 @@ fn too_heavy_has_none(alloc: Global) -> Result<bool, Fail> {
 #[test]
 fn bounds(rt: HostRuntime) -> Result<(), Fail> {
     let alloc = rt.alloc();
-    assert!(rt; cubes_have(alloc, 0, 2)?);
-    assert!(rt; cubes_have(alloc, 1, 26)?);
-    assert!(rt; cubes_have(alloc, 2, 338)?);
-    assert!(rt; cubes_have(alloc, 3, 4486)?);
+    assert!(rt; all_cubes_have(alloc, &[2, 26, 338, 4486])?);
     assert!(rt; aslant_has(alloc, 1, 14)?);
     assert!(rt; heavy_has(alloc, false, (1 << 63) + 4)?);
     assert!(rt; heavy_has(alloc, true, (1 << 64) + 6)?);

@@ -1,10 +1,24 @@
 // Tables of powers, by hand.
 
+ghost use Rattle.std.specs.Prelude.{◌≤◌};
+
 use crate::crossings::line;
 use power_tables::{PowerTable, PowerValues};
 use std::alloc::Global;
 use std::test::Fail;
 use trunc_series::sorted_terms::Arithmetic;
+
+// Whether the values at a place are these, of the degrees 1 to 4.
+fn has_values(values: &PowerValues, table: &PowerTable, place: usize, want: &[i128; 4]) -> bool
+    requires { table.now.least ≤ 1 }
+{
+    for degree in 1..5 {
+        if values.part(table, place, degree) != [want[degree as usize - 1]].as_slice() {
+            return false;
+        }
+    }
+    true
+}
 
 // Whether the n-th power of 1 + t1·x, or of 1/(1 - t1·x) where numbers saturate, has these coefficients at
 // t1·x to t1^4·x^4.
@@ -16,12 +30,7 @@ fn has_power(alloc: Global, rule: Arithmetic, n: i64, want: &[i128; 4]) -> Resul
         return Ok(false);
     }
     let place = values.reach(&table, n, 4)?;
-    for degree in 1..5 {
-        if values.part(&table, place, degree) != [want[degree as usize - 1]].as_slice() {
-            return Ok(false);
-        }
-    }
-    Ok(true)
+    Ok(has_values(&values, &table, place, want))
 }
 
 #[test]

@@ -4,6 +4,7 @@ pub mod OneVariableFunctions
 pub mod Exponents
 pub mod Local
 pub mod RunLines
+pub mod LineClasses
 pub mod WallFunctions
 pub mod Stages
 pub mod Images

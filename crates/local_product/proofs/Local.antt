@@ -1,11 +1,11 @@
 -- The half-walls of the walls through a point, run by run: only runs whose line holds the point have any.
-use Rattle.std.proofs.Common.{◌≡◌, ℕ, zero, suc, ◌+◌, ◌<◌, ◌≤◌, refl, sym, subst, ap, ◌∙◌, Bool, true, false, cond, List, [], ◌∷◌, ◌++◌, length, get_or, take, arith, inl}
+use Rattle.std.proofs.Common.{◌≡◌, ◌≢◌, ℕ, zero, suc, ◌+◌, ◌-◌, ◌<◌, ◌≤◌, Some, None, refl, sym, subst, ap, ◌∙◌, Bool, true, false, cond, List, [], ◌∷◌, ◌++◌, length, get_or, take, arith, inl}
 use Rattle.std.specs.Prelude.{pos, ◌≤ℤ◌, flat_map}
 use Rattle.std.proofs.lemmas.Grind.{flat_map-append}
-use Rattle.std.proofs.lemmas.List.{append-nil, take_more, take_all}
+use Rattle.std.proofs.lemmas.List.{append-nil, length-map, take_more, take_all}
 use Rattle.scattering.specs.Collections.{Every}
 use Rattle.scattering.specs.Plane.{Point}
-use Rattle.scattering.specs.SupportingLine.{by_line, line_holds}
+use Rattle.scattering.specs.SupportingLine.{by_line, line_holds, runs}
 use Rattle.scattering.specs.Wall.{Wall, IsWall, is_on, walls}
 use Rattle.scattering.specs.ActivePoint.{walls_on}
 use Rattle.scattering.specs.LocalProduct.{Half, halves, half_walls}
@@ -17,7 +17,8 @@ use Rattle.scatter_diagram.specs.Shown.{wall_of, walls_of}
 use Rattle.scattering.proofs.Lists.{Every-append, map-append}
 use Rattle.local_product.specs.declared.wall_tables.WallTables.{WallTables}
 use Rattle.local_product.specs.declared.run_line.RunLine.{RunLine}
-use Rattle.local_product.specs.RunLines.{seen_line, IsLineOf, IsLineOfFirst, AreLinesOf}
+use Rattle.local_product.specs.RunLines.{seen_line, IsLineOfFirst, AreLinesOf, IsOnlyAt}
+use Rattle.local_product.proofs.LineClasses.{lines-length}
 use Rattle.local_product.specs.Tabled.{TabledRun, AreTablesOf, tabled_walls, tabled_runs, HasTables}
 
 -- what is so at each place is so at one of them
@@ -78,60 +79,71 @@ run-at P [] i r l e h = absurd (omega (arith, l))
 run-at P (q ∷ rs) zero r l e h = subst (λ (x : TabledRun). P (tabled_walls x.items)) (sym e) h.0
 run-at P (q ∷ rs) (suc i) r l e h = run-at P rs i r (omega (arith, l)) e h.1
 
+pub run-tables : (e : SeenDiagram) (n : ℕ) (rs : List TabledRun) → AreTablesOf e n rs → (i : ℕ) (r : TabledRun) → i < length rs → r ≡ get_or rs i r → Every (HasTables n) r.items
+run-tables e n rs are i r l at = Every-place (λ (x : TabledRun). Every (HasTables n) x.items) rs i r l at are.tables
+
 module _ (e : SeenDiagram) (n : ℕ) (rs : List TabledRun) (are : AreTablesOf e n rs) (p : Point) (i : ℕ) (r : TabledRun) (l : i < length rs) (at : r ≡ get_or rs i r) (old new : List Half) (h : old ≡ flat_map (run_halves p) (take i rs)) where
   pub run-some : 0 < length r.items
   run-some = Every-place (λ (x : TabledRun). 0 < length x.items) rs i r l at are.some
 
-  pub run-tables : Every (HasTables n) r.items
-  run-tables = Every-place (λ (x : TabledRun). Every (HasTables n) x.items) rs i r l at are.tables
-
   pub with-run : new ≡ old ++ run_halves p r → new ≡ flat_map (run_halves p) (take (i + 1) rs)
   with-run q = q ∙ ap (λ x. x ++ run_halves p r) h ∙ sym (joined-more (run_halves p) rs i r l at)
 
-  pub without-run : (k : RunLine) → IsLineOfFirst r.items k → line_holds (seen_line k) p ≡ false → new ≡ old → new ≡ flat_map (run_halves p) (take (i + 1) rs)
+  pub without-run : (k : RunLine) → IsLineOfFirst (tabled_walls r.items) k → line_holds (seen_line k) p ≡ false → new ≡ old → new ≡ flat_map (run_halves p) (take (i + 1) rs)
   without-run k s f q = with-run (q ∙ sym (ap (λ x. old ++ x) none ∙ append-nil old))
     where
-      off : (ts : List WallTables) → 0 < length ts → IsLineOfFirst ts k → IsRun e.order (tabled_walls ts) → walls_on (tabled_walls ts) p ≡ []
+      off : (ts : List WallTables) → 0 < length ts → IsLineOfFirst (tabled_walls ts) k → IsRun e.order (tabled_walls ts) → walls_on (tabled_walls ts) p ≡ []
       off [] u s h = absurd (omega (arith, u))
-      off (v ∷ ts) u s h = run-off e.order (tabled_walls (v ∷ ts)) p (wall_of v.wall.now) h (inl refl) (sym (s p) ∙ f)
+      off (v ∷ ts) u s h = run-off e.order (tabled_walls (v ∷ ts)) p (wall_of v.wall.now) h (inl refl) (ap (λ l. line_holds l p) (sym s) ∙ f)
 
       none : run_halves p r ≡ []
       none =
           sym (halves-on p (tabled_walls r.items))
           ∙ ap (flat_map (halves p)) (off r.items run-some s (run-at (IsRun e.order) rs i r l at (subst (Every (IsRun e.order)) (sym are.runs) (runs-are e.order (walls e.diagram) are.proper))))
 
--- ---- the lines of runs
-
-pub lines-length : (rs : List TabledRun) (ls : List RunLine) → AreLinesOf rs ls → length ls ≡ length rs
-lines-length [] [] h = refl
-lines-length [] (k ∷ ls) h = absurd h
-lines-length (r ∷ rs) [] h = absurd h
-lines-length (r ∷ rs) (k ∷ ls) h = ap suc (lines-length rs ls h.1)
+-- ---- a class of parallel lines
 
 pub run-there : (rs : List TabledRun) (i : ℕ) → i < length rs → (r : TabledRun) × (r ≡ get_or rs i r)
 run-there [] i l = absurd (omega (arith, l))
 run-there (r ∷ rs) zero l = (r, refl)
 run-there (r ∷ rs) (suc i) l = run-there rs i (omega (arith, l))
 
-pub line-at : (rs : List TabledRun) (ls : List RunLine) (i : ℕ) (r : TabledRun) (k : RunLine) → AreLinesOf rs ls → i < length rs → r ≡ get_or rs i r → k ≡ get_or ls i k → IsLineOfFirst r.items k
-line-at [] ls i r k h l e f = absurd (omega (arith, l))
-line-at (q ∷ rs) [] i r k h l e f = absurd h
-line-at (q ∷ rs) (m ∷ ls) zero r k h l e f = subst (λ (x : TabledRun). IsLineOfFirst x.items k) (sym e) (subst (IsLineOfFirst q.items) (sym f) h.0)
-line-at (q ∷ rs) (m ∷ ls) (suc i) r k h l e f = line-at rs ls i r k h.1 (omega (arith, l)) e f
+-- the line of a run
+line-at : (rs : List TabledRun) (ls : List RunLine) (i : ℕ) (r : TabledRun) → AreLinesOf (tabled_runs rs) ls → i < length rs → r ≡ get_or rs i r → (k : RunLine) × (k ≡ get_or ls i k) × IsLineOfFirst (tabled_walls r.items) k
+line-at [] ls i r h l e = absurd (omega (arith, l))
+line-at (q ∷ rs) [] i r h l e = absurd h
+line-at (q ∷ rs) (m ∷ ls) zero r h l e = (m, refl, subst (λ (x : TabledRun). IsLineOfFirst (tabled_walls x.items) m) (sym e) h.0)
+line-at (q ∷ rs) (m ∷ ls) (suc i) r h l e = line-at rs ls i r h.1 (omega (arith, l)) e
 
-pub line-added : (rs new : List TabledRun) (ls more : List RunLine) (r : TabledRun) (k : RunLine) → new ≡ rs ++ r ∷ [] → more ≡ ls ++ k ∷ [] → IsLineOfFirst r.items k → AreLinesOf rs ls → AreLinesOf new more
-line-added rs new ls more r k e f h hs = subst (AreLinesOf new) (sym f) (subst (λ (x : List TabledRun). AreLinesOf x (ls ++ k ∷ [])) (sym e) (joined rs ls hs))
-  where
-    joined : (rs : List TabledRun) (ls : List RunLine) → AreLinesOf rs ls → AreLinesOf (rs ++ r ∷ []) (ls ++ k ∷ [])
-    joined [] [] hs = (h, tt)
-    joined [] (m ∷ ls) hs = absurd hs
-    joined (q ∷ rs) [] hs = absurd hs
-    joined (q ∷ rs) (m ∷ ls) hs = (hs.0, joined rs ls hs.1)
+module _ (e : SeenDiagram) (n : ℕ) (rs : List TabledRun) (are : AreTablesOf e n rs) (p : Point) (ls : List RunLine) (lines : AreLinesOf (runs (walls e.diagram)) ls) where
+  pub as-many : length ls ≡ length rs
+  as-many = lines-length (tabled_runs rs) ls (subst (λ (gs : List (List Wall)). AreLinesOf gs ls) (sym are.runs) lines) ∙ length-map rs (λ (r : TabledRun). tabled_walls r.items)
 
-pub first-line : (ws : List CodeWall) (ts : List WallTables) (w : CodeWall) (k : RunLine) → tabled_walls ts ≡ walls_of ws → 0 < length ws → w ≡ get_or ws 0 w → IsLineOf (wall_of w) k → IsLineOfFirst ts k
-first-line [] ts w k e l f h = absurd (omega (arith, l))
-first-line (v ∷ ws) [] w k e l f h = tt
-first-line (v ∷ ws) (t ∷ ts) w k e l f h = subst (λ (u : Wall). IsLineOf u k) (ap wall_of f ∙ sym (ap (λ gs. get_or gs 0 (wall_of v)) e)) h
+  -- runs whose lines don't hold the point add nothing
+  skipped : (d i j : ℕ) → j ≡ i + d → j ≤ length rs → ((m : ℕ) (k : RunLine) → i ≤ m → m < j → line_holds (seen_line (get_or ls m k)) p ≡ false) → flat_map (run_halves p) (take j rs) ≡ flat_map (run_halves p) (take i rs)
+  skipped zero i j q l f = ap (λ m. flat_map (run_halves p) (take m rs)) (omega (arith, q))
+  skipped (suc d) i j q l f =
+      let r = run-there rs (i + d) (omega (arith, q, l)) in
+      let k = line-at rs ls (i + d) r.0 (subst (λ (gs : List (List Wall)). AreLinesOf gs ls) (sym are.runs) lines) (omega (arith, q, l)) r.1 in
+      let h : List Half = flat_map (run_halves p) (take (i + d) rs) in
+      let off : line_holds (seen_line k.0) p ≡ false = ap (λ m. line_holds (seen_line m) p) k.1 ∙ f (i + d) k.0 (omega arith) (omega (arith, q)) in
+      ap (λ m. flat_map (run_halves p) (take m rs)) (omega (arith, q))
+      ∙ sym (without-run e n rs are p (i + d) r.0 (omega (arith, q, l)) r.1 h h refl k.0 k.2 off refl)
+      ∙ skipped d i (i + d) refl (omega (arith, q, l)) (λ m k a b. f m k a (omega (arith, b, q)))
+
+  module _ (b c : ℕ) (rise : b < c) (below : c ≤ length ls) (old new : List Half) (h : old ≡ flat_map (run_halves p) (take b rs)) where
+    -- none of the lines from b to c holds the point
+    pub without-class : IsOnlyAt b c p ls None → new ≡ old → new ≡ flat_map (run_halves p) (take c rs)
+    without-class o q = q ∙ h ∙ sym (skipped (c - b) b c (omega (arith, rise)) (omega (arith, below, as-many)) (λ m k l u. o m k l u (λ f. absurd (cc))))
+
+    -- at most that at i
+    pub with-class : (i : ℕ) (r : TabledRun) → b ≤ i → i < c → r ≡ get_or rs i r → IsOnlyAt b c p ls (Some i) → new ≡ old ++ run_halves p r → new ≡ flat_map (run_halves p) (take c rs)
+    with-class i r l u at o q =
+        with-run e n rs are p i r (omega (arith, u, below, as-many)) at old new (h ∙ sym (skipped (i - b) b i (omega (arith, l)) (omega (arith, u, below, as-many)) (λ m k a f. o m k a (omega (arith, f, u)) (apart i m (omega (arith, f)))))) q
+        ∙ sym (skipped (c - (i + 1)) (i + 1) c (omega (arith, u)) (omega (arith, below, as-many)) (λ m k a f. o m k (omega (arith, a, l)) f (apart i m (omega (arith, a)))))
+      where
+        apart : (i m : ℕ) → i ≢ m → Some i ≢ Some m
+        apart i m d e = d (cc)
 
 -- ---- all runs
 

@@ -1,104 +1,174 @@
--- What the lines of runs hold.
-use Rattle.std.proofs.Common.{◌≡◌, refl, sym, ap, ◌∙◌, ◌≤◌, ◌^◌, Bool, true, false, cond, nat_eq, arith, of_z, to_z, FitsSigned, ◌∷◌, [], subst}
-use Rattle.std.specs.Prelude.{ℤ, pos, neg_ℤ, ◌*ℤ◌, ◌-ℤ◌, ◌≤ℤ◌, nat_abs}
-use Rattle.std.proofs.lemmas.Int.{ints, to_z-of_z}
+-- How lines of runs stand, and which of parallel lines holds a point.
+use Rattle.std.proofs.Common.{◌≡◌, ℕ, zero, suc, ◌+◌, ◌<◌, ◌≤◌, ◌^◌, refl, sym, ap, subst, ◌∙◌, Bool, true, false, cond, ◌-◌, Some, None, List, length, get_or, arith, of_z, to_z}
+use Rattle.std.specs.Prelude.{ℤ, ◌*ℤ◌, nat_abs, int_lt}
+use Rattle.std.specs.Ordering.{int_cmp, is_lt, is_eq}
+use Rattle.std.specs.declared.cmp.Ordering.TheVariants.{Less, Equal, Greater}
+use native.Mathlib.Decide.{dec_le}
+use Rattle.std.proofs.lemmas.Int.{ints}
+use Rattle.std.proofs.lemmas.List.{get_or_default}
 use mir.Syntax.{w64, w128}
-use Rattle.sum_algebra.proofs.Ring.{ring, minus}
-use Rattle.sum_algebra.proofs.Ring as E
-use Rattle.sum_algebra.proofs.IntegerRing.{ints_ring, ◌:*◌, ◌:-◌, X, Y, Z}
-use Rattle.scattering.specs.Series.{origin, int_eq, exp_before}
+use Rattle.scattering.specs.Series.{origin, int_eq}
 use Rattle.scattering.specs.Plane.{Point}
-use Rattle.scattering.specs.Wall.{Wall}
-use Rattle.scattering.specs.SupportingLine.{offset, supporting_line, line_holds}
-use Rattle.plane_geom.proofs.Casts.{back64, back128}
-use Rattle.plane_geom.specs.Shown.{point_of, vector_of}
-use Rattle.scatter_diagram.specs.declared.wall.Wall.{Wall as CodeWall}
-use Rattle.scatter_diagram.specs.Shown.{wall_of}
+use Rattle.scattering.specs.SupportingLine.{SupportingLine, offset, line_holds}
+use Rattle.crossing_theory.proofs.SupportingLines.{line-chain, line-one_way}
+use Rattle.plane_geom.proofs.Casts.{back128}
+use Rattle.plane_geom.specs.Shown.{vector_of}
+use Rattle.frac_128.proofs.SignedProducts.{within, widened, product-is}
 use Rattle.local_product.specs.declared.run_line.RunLine.{RunLine}
-use Rattle.local_product.specs.RunLines.{seen_line, same_place, IsLineOf, IsThrough}
-use Rattle.scattering.proofs.Lists.{bool_iff}
-use Rattle.scattering.proofs.Tests.{nat_eq-same}
-use Rattle.std.proofs.lemmas.Bool.{eq-eqb}
-use Rattle.scattering.proofs.Keys.{int_eq-same, int_eq-refl}
-use Rattle.plane_theory.proofs.WholeNumbers.{cancel}
-use Rattle.sum_algebra.proofs.Integers.{times-same}
-use Rattle.frac_128.proofs.SignedProducts.{within, widened, product-fits}
-
--- tests of one truth
-same-tests : (a b p q : ℤ) → (a ≡ b → p ≡ q) → (p ≡ q → a ≡ b) → int_eq a b ≡ int_eq p q
-same-tests a b p q f g = bool_iff _ _ (λ e. holds p q (f (int_eq-same a b e))) (λ e. holds a b (g (int_eq-same p q e)))
-  where
-    holds : (x y : ℤ) → x ≡ y → int_eq x y ≡ true
-    holds x y e = subst (λ (z : ℤ). int_eq x z ≡ true) e (int_eq-refl x)
-
--- numbers that fit are the same where their bits are
-pub same-bits : (a b : ℤ) → FitsSigned w128 a → FitsSigned w128 b → nat_eq (of_z w128 a) (of_z w128 b) ≡ int_eq a b
-same-bits a b h k = bool_iff _ _ (λ e. subst (λ (z : ℤ). int_eq a z ≡ true) (numbers (nat_eq-same _ _ e)) (int_eq-refl a)) (λ e. eq-eqb _ _ (ap (of_z w128) (int_eq-same a b e)))
-  where
-    numbers : of_z w128 a ≡ of_z w128 b → a ≡ b
-    numbers e = sym (to_z-of_z w128 a h) ∙ ap (to_z w128) e ∙ to_z-of_z w128 b k
-
--- a positive factor
-pub times-both : (a b w : ℤ) → pos 1 ≤ℤ w → int_eq (a *ℤ w) (b *ℤ w) ≡ int_eq a b
-times-both a b w h = same-tests _ _ a b (λ e. cancel w a b h (turn w a ∙ e ∙ turn b w)) (λ e. ap (λ c. c *ℤ w) e)
-  where
-    turn : (x y : ℤ) → x *ℤ y ≡ y *ℤ x
-    turn x y = ring ints_ring (x ∷ y ∷ []) (X :* Y) (Y :* X) refl
-
--- both turned round
-turned-product : (a b x y w : ℤ) → (neg_ℤ a *ℤ y -ℤ neg_ℤ b *ℤ x) *ℤ w ≡ neg_ℤ ((a *ℤ y -ℤ b *ℤ x) *ℤ w)
-turned-product a b x y w = ring ints_ring (a ∷ b ∷ x ∷ y ∷ w ∷ []) ((minus X :* E.var 3 :- minus Y :* Z) :* E.var 4) (minus ((X :* E.var 3 :- Y :* Z) :* E.var 4)) refl
-
-turned-same : (m n p q : ℤ) → p ≡ neg_ℤ m → q ≡ neg_ℤ n → int_eq m n ≡ int_eq p q
-turned-same m n p q e f = same-tests m n p q (λ i. omega (arith, ints, e, f, i)) (λ i. omega (arith, ints, e, f, i))
-
--- a wall's line holds what its own direction tells
-pub own-direction : (w : Wall) (p : Point) → int_eq (offset w.dir w.at *ℤ p.w) (offset w.dir p *ℤ w.at.w) ≡ line_holds (supporting_line w) p
-own-direction w p = go (exp_before origin w.dir)
-  where
-    go : (b : Bool) → int_eq (offset w.dir w.at *ℤ p.w) (offset w.dir p *ℤ w.at.w) ≡ int_eq (offset (cond b w.dir (record { a = neg_ℤ w.dir.a; b = neg_ℤ w.dir.b })) w.at *ℤ p.w) (offset (cond b w.dir (record { a = neg_ℤ w.dir.a; b = neg_ℤ w.dir.b })) p *ℤ w.at.w)
-    go true = refl
-    go false = turned-same _ _ _ _ (turned-product w.dir.a w.dir.b w.at.x w.at.y p.w) (turned-product w.dir.a w.dir.b p.x p.y w.at.w)
+use Rattle.local_product.specs.RunLines.{seen_line, place_before, place_order, IsThrough, IsBefore, Rise, AreBefore, AreNotBefore, IsOnlyAt}
 
 -- ---- numbers as they are passed
 
 pub near : (r x : ℤ) → r ≡ to_z w64 (of_z w64 x) → nat_abs x ≤ 2 ^ 40 → to_z w128 (of_z w128 r) ≡ x
 near r x e h = ap (λ z. to_z w128 (of_z w128 z)) e ∙ widened w64 w128 x (within w64 x (2 ^ 40) h (omega arith)) (within w128 x (2 ^ 40) h (omega arith))
 
--- the two products
-abbrev pub passed : ℤ → ℤ → ℤ
-passed x r = to_z w128 (of_z w128 x) *ℤ to_z w128 (of_z w128 r)
+pub raised : (x r a : ℤ) → nat_abs x ≤ 2 ^ 81 → nat_abs a ≤ 2 ^ 40 → r ≡ to_z w64 (of_z w64 a) → to_z w128 (of_z w128 (to_z w128 (of_z w128 x) *ℤ to_z w128 (of_z w128 r))) ≡ x *ℤ a
+raised x r a h k e = product-is w128 _ _ x a (2 ^ 81) (2 ^ 40) (back128 x h) (near r a e k) h k (omega arith)
 
-pub products-bits : (x r a y s b : ℤ) → nat_abs x ≤ 2 ^ 81 → nat_abs a ≤ 2 ^ 40 → nat_abs y ≤ 2 ^ 81 → nat_abs b ≤ 2 ^ 40 → r ≡ to_z w64 (of_z w64 a) → s ≡ to_z w64 (of_z w64 b)
-    → nat_eq (of_z w128 (passed x r)) (of_z w128 (passed y s)) ≡ int_eq (x *ℤ a) (y *ℤ b)
-products-bits x r a y s b h i k j e f =
-    let p = product-fits w128 _ _ x a (2 ^ 81) (2 ^ 40) refl refl h i (omega arith) in
-    let q = product-fits w128 _ _ y b (2 ^ 81) (2 ^ 40) refl refl k j (omega arith) in
-    let l : passed x r ≡ x *ℤ a = times-same _ _ _ _ (back128 x h) (near r a e i) in
-    let m : passed y s ≡ y *ℤ b = times-same _ _ _ _ (back128 y k) (near s b f j) in
-    (λ t. nat_eq (of_z w128 (l t)) (of_z w128 (m t))) ∙ same-bits (x *ℤ a) (y *ℤ b) p q
+-- ---- the order of parallel lines
 
--- bits of i64
-pub near-bits : (a b : ℤ) → nat_abs a ≤ 2 ^ 40 → nat_abs b ≤ 2 ^ 40 → of_z w64 a ≡ of_z w64 b → a ≡ b
-near-bits a b h k e = sym (back64 a h) ∙ ap (to_z w64) e ∙ back64 b k
+-- the places decide, whatever the direction
+abbrev placed : RunLine → SupportingLine
+placed l = record { dir = origin; over = l.over; under = l.under }
 
--- where both have one denominator the numbers themselves tell
-pub one-denominator : (x y u w : ℤ) → pos 1 ≤ℤ w → u ≡ w → nat_abs x ≤ 2 ^ 81 → nat_abs y ≤ 2 ^ 81 → nat_eq (of_z w128 x) (of_z w128 y) ≡ int_eq (x *ℤ w) (y *ℤ u)
-one-denominator x y u w l e h k =
-    same-bits x y (within w128 x (2 ^ 81) h (omega arith)) (within w128 y (2 ^ 81) k (omega arith))
-    ∙ sym (times-both x y w l)
-    ∙ ap (λ v. int_eq (x *ℤ w) (y *ℤ v)) (sym e)
+abbrev pub stands_before : RunLine → RunLine → Bool
+stands_before l m = place_before (seen_line l) (seen_line m)
+
+chain : (l m n : RunLine) → stands_before l m ≡ false → stands_before m n ≡ false → stands_before l n ≡ false
+chain l m n e f = line-chain (placed l) (placed m) (placed n) l.positive m.positive n.positive e f
+
+one-way : (l m : RunLine) → stands_before l m ≡ true → stands_before m l ≡ false
+one-way l m e = line-one_way (placed l) (placed m) e
+
+by-contradiction : (b : Bool) → (b ≡ false → ⊥) → b ≡ true
+by-contradiction true f = refl
+by-contradiction false f = absurd (f refl)
+
+-- l, then m, then n
+pub before-before : (l m n : RunLine) → stands_before l m ≡ true → stands_before m n ≡ true → stands_before l n ≡ true
+before-before l m n e f = by-contradiction (stands_before l n) (λ g. let a = chain l n m g (one-way m n f) in absurd (cc))
+
+-- l isn't before m, and n is behind l
+pub behind-behind : (l m n : RunLine) → stands_before l m ≡ false → stands_before l n ≡ true → stands_before m n ≡ true
+behind-behind l m n e f = by-contradiction (stands_before m n) (λ g. let a = chain l m n e g in absurd (cc))
+
+pub less-is : (x y : ℤ) → is_lt (int_cmp x y) ≡ int_lt x y
+less-is x y = go (int_lt x y) (int_lt y x)
+  where
+    go : (b c : Bool) → is_lt (cond b Less (cond c Greater Equal)) ≡ b
+    go true c = refl
+    go false true = refl
+    go false false = refl
+
+-- neither before nor one with it: behind
+else-behind : (x y : ℤ) → int_lt x y ≡ false → is_eq (int_cmp x y) ≡ false → int_lt y x ≡ true
+else-behind x y e f = go (int_lt x y) (int_lt y x) e f
+  where
+    go : (b c : Bool) → b ≡ false → is_eq (cond b Less (cond c Greater Equal)) ≡ false → c ≡ true
+    go true c e f = absurd (cc)
+    go false true e f = refl
+    go false false e f = absurd (cc)
+
+-- ---- lines of one class
+
+module _ (b e : ℕ) (ls : List RunLine) (rise : Rise b e ls) (k : RunLine) where
+  abbrev pub at : ℕ → RunLine
+  at i = get_or ls i k
+
+  rise-by : (d i j : ℕ) → j ≡ i + 1 + d → b ≤ i → j < e → IsBefore (at i) (at j)
+  rise-by zero i j q l h = subst (λ (n : ℕ). IsBefore (at i) (at n)) (omega (arith, q)) (rise i k l (omega (arith, q, h)))
+  rise-by (suc d) i j q l h =
+      let m : ℕ = i + 1 + d in
+      let first = rise-by d i (i + 1 + d) refl l (omega (arith, q, h)) in
+      let next = subst (λ (n : ℕ). IsBefore (at (i + 1 + d)) (at n)) (omega (arith, q)) (rise (i + 1 + d) k (omega (arith, l)) (omega (arith, q, h))) in
+      (first.0 ∙ next.0, before-before (at i) (at (i + 1 + d)) (at j) first.1 next.1)
+
+  pub rises : (i j : ℕ) → b ≤ i → i < j → j < e → IsBefore (at i) (at j)
+  rises i j l m h = rise-by (j - (i + 1)) i j (omega (arith, m)) l h
+
+  pub parallel-to : (i : ℕ) → b ≤ i → i < e → vector_of (at b).dir ≡ vector_of (at i).dir
+  parallel-to i l h = elim (dec_le i b) [
+    | yes m ↦ ap (λ n. vector_of (at n).dir) (omega (arith, l, m))
+    | no o ↦ (rises b i (omega arith) (omega (arith, o)) h).0
+  ]
+
+  module _ (m : RunLine) where
+    -- where one stands before m, those below it do
+    pub below-before : (i j : ℕ) → b ≤ j → j ≤ i → i < e → stands_before (at i) m ≡ true → stands_before (at j) m ≡ true
+    below-before i j l h u f = elim (dec_le i j) [
+      | yes q ↦ subst (λ (n : ℕ). stands_before (at n) m ≡ true) (omega (arith, h, q)) f
+      | no o ↦ before-before (at j) (at i) m (rises j i l (omega (arith, o)) u).1 f
+    ]
+
+    -- where one doesn't, those above it don't
+    pub above-not : (i j : ℕ) → b ≤ i → i ≤ j → j < e → stands_before (at i) m ≡ false → stands_before (at j) m ≡ false
+    above-not i j l h u f = go (stands_before (at j) m) refl
+      where
+        go : (c : Bool) → stands_before (at j) m ≡ c → stands_before (at j) m ≡ false
+        go false q = q
+        go true q = let a = below-before j i l h u q in absurd (cc)
+
+    -- those above one that isn't before m are behind it
+    pub above-behind : (i j : ℕ) → b ≤ i → i < j → j < e → stands_before (at i) m ≡ false → stands_before m (at j) ≡ true
+    above-behind i j l h u f = behind-behind (at i) m (at j) f (rises i j l h u).1
 
 -- ---- lines through points
 
--- that through a wall's point along its direction
-pub through-own : (w : CodeWall) (k : RunLine) → IsThrough (point_of w.at) k → k.dir ≡ w.dir → IsLineOf (wall_of w) k
-through-own w k h e = λ p.
-    let v = ap vector_of e in
-    let o = h.0 ∙ ap (λ d. offset d (point_of w.at)) v in
-    (λ i. int_eq (o i *ℤ p.w) (offset (v i) p *ℤ h.1 i))
-    ∙ own-direction (wall_of w) p
-
--- a line holds a point where it is that through the point along its direction
-pub holds-through : (k m : RunLine) (p : Point) → IsThrough p m → vector_of m.dir ≡ vector_of k.dir → same_place (seen_line k) (seen_line m) ≡ line_holds (seen_line k) p
+-- a line holds a point where it stands where the parallel line through the point stands
+pub holds-through : (k m : RunLine) (p : Point) → IsThrough p m → vector_of m.dir ≡ vector_of k.dir → int_eq (k.over *ℤ m.under) (m.over *ℤ k.under) ≡ line_holds (seen_line k) p
 holds-through k m p h v = let o = h.0 ∙ ap (λ d. offset d p) v in (λ i. int_eq (k.over *ℤ h.1 i) (o i *ℤ k.under))
+
+less-unequal : (x y : ℤ) → int_lt x y ≡ true → int_eq x y ≡ false
+less-unequal x y e = grind (arith, ints, e)
+
+more-unequal : (x y : ℤ) → int_lt y x ≡ true → int_eq x y ≡ false
+more-unequal x y e = grind (arith, ints, e)
+
+before-off : (k m : RunLine) (p : Point) → IsThrough p m → vector_of m.dir ≡ vector_of k.dir → stands_before k m ≡ true → line_holds (seen_line k) p ≡ false
+before-off k m p h v e = sym (holds-through k m p h v) ∙ less-unequal (k.over *ℤ m.under) (m.over *ℤ k.under) e
+
+behind-off : (k m : RunLine) (p : Point) → IsThrough p m → vector_of m.dir ≡ vector_of k.dir → stands_before m k ≡ true → line_holds (seen_line k) p ≡ false
+behind-off k m p h v e = sym (holds-through k m p h v) ∙ more-unequal (k.over *ℤ m.under) (m.over *ℤ k.under) e
+
+-- what is read at a place, whatever else is read past the end
+pub read-as : (ls : List RunLine) (i : ℕ) (r k : RunLine) → i < length ls → r ≡ get_or ls i r → r ≡ get_or ls i k
+read-as ls i r k l e = e ∙ get_or_default ls i r k l
+
+-- m goes through the point, parallel to the lines from b to e, of which those below i stand before it, and no others
+module _ (b e : ℕ) (ls : List RunLine) (rise : Rise b e ls) (within : e ≤ length ls) (p : Point) (m r : RunLine) (through : IsThrough p m) (first : r ≡ get_or ls b r) (parallel : m.dir ≡ r.dir)
+    (i : ℕ) (low : b ≤ i) (before : AreBefore b i m ls) (others : AreNotBefore i e m ls) where
+  same-direction : (j : ℕ) (k : RunLine) → b ≤ j → j < e → vector_of m.dir ≡ vector_of (get_or ls j k).dir
+  same-direction j k l u = ap vector_of parallel ∙ ap (λ (x : RunLine). vector_of x.dir) (read-as ls b r k (omega (arith, l, u, within)) first) ∙ parallel-to b e ls rise k j l u
+
+  below-off : (j : ℕ) (k : RunLine) → b ≤ j → j < e → j < i → line_holds (seen_line (get_or ls j k)) p ≡ false
+  below-off j k l u f = before-off (get_or ls j k) m p through (same-direction j k l u) (before j k l f)
+
+  above-off : (j : ℕ) (k : RunLine) → i < j → j < e → line_holds (seen_line (get_or ls j k)) p ≡ false
+  above-off j k f u = behind-off (get_or ls j k) m p through (same-direction j k (omega (arith, f, low)) u) (above-behind b e ls rise k m i j low f u (others i k (omega arith) (omega (arith, f, u))))
+
+  pub one-at : IsOnlyAt b e p ls (Some i)
+  one-at j k l u o = elim (dec_le j i) [
+    | no n ↦ above-off j k (omega (arith, n)) u
+    | yes y ↦ elim (dec_le i j) [
+      | no n ↦ below-off j k l u (omega (arith, n))
+      | yes z ↦ absurd (o (ap Some (omega (arith, y, z))))
+    ]
+  ]
+
+  pub none-before-end : e ≤ i → IsOnlyAt b e p ls None
+  none-before-end q j k l u o = below-off j k l u (omega (arith, q, u))
+
+  -- that at i is behind the point
+  pub none-behind : (n : RunLine) → i < e → n ≡ get_or ls i n → is_eq (place_order (seen_line n) (seen_line m)) ≡ false → IsOnlyAt b e p ls None
+  none-behind n q is f j k l u o = elim (dec_le j i) [
+    | no d ↦ above-off j k (omega (arith, d)) u
+    | yes y ↦ elim (dec_le i j) [
+      | no d ↦ below-off j k l u (omega (arith, d))
+      | yes z ↦
+          let s : i ≡ j = omega (arith, y, z) in
+          let t : n ≡ get_or ls j k = read-as ls i n k (omega (arith, q, within)) is ∙ ap (λ x. get_or ls x k) s in
+          let not-before : stands_before n m ≡ false = ap (λ x. stands_before x m) t ∙ others j k (omega (arith, s)) u in
+          behind-off (get_or ls j k) m p through (same-direction j k l u)
+          (ap (λ x. stands_before m x) (sym t) ∙ else-behind (n.over *ℤ m.under) (m.over *ℤ n.under) not-before f)
+    ]
+  ]

@@ -7,3 +7,4 @@ pub mod Obstruction
 pub mod LightPoint
 pub mod OneSide
 pub mod OneVariable
+pub mod Extents

@@ -2,11 +2,11 @@
 
 ghost use Rattle.std.specs.Prelude.{◌≡◌, ◌≤◌, suc, length, IfOk, OnOk};
 ghost use Rattle.limits.specs.Limits.{highest_order, largest_weight};
-ghost use Rattle.scattering.specs.ThetaProduct.{of_degree};
 ghost use Rattle.trunc_series.specs.Shown.{exp_of, IsSeriesOf};
 ghost use Rattle.trunc_series.specs.declared.arithmetic.Arithmetic.TheVariants.{Wrapping};
 ghost use Rattle.wall_auto.specs.ByDegree.{AreKept};
 ghost use Rattle.local_product.specs.Shown.{IsUnit, IsImageByDegree, carried, carried_mass};
+ghost use Rattle.local_product.specs.Extents.{extent_of};
 ghost use Rattle.local_product.specs.Tabled.{HalvesHaveTables};
 
 use crate::half_walls::HalfWall;
@@ -44,7 +44,16 @@ fn carry(
     Ok(())
 }
 
-/// The image of z^m, where its majorant has a mass of at most 2^126.
+/// Which terms of an image are read.
+#[derive(Clone, Copy)]
+pub enum Extent {
+    /// All of them.
+    Whole,
+    /// Those of the order's own degree.
+    Highest,
+}
+
+/// The image of z^m, or its terms of the highest degree, where its majorant has a mass of at most 2^126.
 pub(crate) fn image(
     alloc: Global,
     sum: &mut SumByDegree,
@@ -52,6 +61,7 @@ pub(crate) fn image(
     order: u32,
     halves: &[HalfWall],
     m: Exp,
+    extent: Extent,
 ) -> Result<Series, AllocError>
     requires order { order ≤ highest_order }
     requires parts { length sum.old ≡ suc order }
@@ -59,32 +69,13 @@ pub(crate) fn image(
     requires axis { IsUnit (exp_of m) }
     requires mass { carried_mass order halves.now (exp_of m) ≤ largest_weight }
     ensures parts { length sum.new ≡ suc order }
-    ensures image { IfOk result (λ s. IsSeriesOf s order (carried order halves.now (exp_of m))) }
+    ensures image { IfOk result
+        (λ s. IsSeriesOf s order (extent_of extent order (carried order halves.now (exp_of m)))) }
 {
     carry(sum, values, order, halves, m)?;
-    let terms = sum.sorted(Arithmetic::Wrapping)?;
-    Ok(Series::from_sorted(alloc, order, terms))
-}
-
-/// The terms of the order's own degree of that image.
-pub(crate) fn highest_part(
-    alloc: Global,
-    sum: &mut SumByDegree,
-    values: &mut PowerValues,
-    order: u32,
-    halves: &[HalfWall],
-    m: Exp,
-) -> Result<Series, AllocError>
-    requires order { order ≤ highest_order }
-    requires parts { length sum.old ≡ suc order }
-    requires tables { HalvesHaveTables order halves.now }
-    requires axis { IsUnit (exp_of m) }
-    requires mass { carried_mass order halves.now (exp_of m) ≤ largest_weight }
-    ensures parts { length sum.new ≡ suc order }
-    ensures part { IfOk result
-        (λ s. IsSeriesOf s order (of_degree order (carried order halves.now (exp_of m)))) }
-{
-    carry(sum, values, order, halves, m)?;
-    let terms = sum.sorted_part(Arithmetic::Wrapping, order)?;
+    let terms = match extent {
+        Extent::Whole => sum.sorted(Arithmetic::Wrapping)?,
+        Extent::Highest => sum.sorted_part(Arithmetic::Wrapping, order)?,
+    };
     Ok(Series::from_sorted(alloc, order, terms))
 }

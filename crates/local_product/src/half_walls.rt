@@ -9,7 +9,7 @@ ghost use Rattle.scatter_diagram.specs.Shown.{wall_of};
 ghost use Rattle.local_product.specs.Shown.{half_of, half_before, AddsHalves, AddsRun, AreHalvesOf, AreHalfWalls};
 ghost use Rattle.local_product.specs.Tabled.{HalvesHaveTables, KeepsTables, KeepsRunTables};
 
-use crate::run_line::RunLine;
+use crate::parallels::line_through;
 use crate::tables::LocalTables;
 use crate::wall_tables::WallTables;
 use plane_geom::{Direction, Point, angle_cmp};
@@ -97,7 +97,7 @@ fn arrange(halves: &mut Vec<HalfWall>) -> Result<(), AllocError>
 
 /// Puts the half-walls at a point into `out`, run by run.
 ///
-/// Only where a run's line holds the point are its walls looked at.
+/// Of parallel lines at most one holds the point, and only of that one the walls are looked at.
 fn unordered<'a>(
     out: &mut Vec<HalfWall<'a>>,
     tables: &'a LocalTables<'_>,
@@ -109,15 +109,14 @@ fn unordered<'a>(
         (Every (IsWall tables.now.diagram.order) (walls tables.now.diagram.diagram)) }
 {
     out.clear();
-    let (lines, runs) = tables.runs();
-    // runs of one direction stand together, so the line through the point is made once for all of them
-    let mut through = RunLine::through(p, &Direction { a: 1, b: 0 });
-    for i in 0..lines.len() {
-        let line = &lines[i];
-        through = line.moved_to(p, through);
-        if line.is_at(&through) {
-            push_run(out, runs[i].as_slice(), p)?;
+    let runs = tables.runs();
+    let (lines, ends) = tables.lines();
+    let mut begin = 0;
+    for i in 0..ends.len() {
+        if let Some(at) = line_through(lines, begin, ends[i], p) {
+            push_run(out, runs[at].as_slice(), p)?;
         }
+        begin = ends[i];
     }
     Ok(())
 }

@@ -12,6 +12,7 @@ mod majorants;
 mod obstruction;
 mod one_side;
 mod one_variable;
+mod parallels;
 mod product;
 mod run_line;
 mod tables;

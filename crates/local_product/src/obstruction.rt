@@ -9,7 +9,7 @@ ghost use Rattle.local_product.specs.OneSide.{IsEdge};
 ghost use Rattle.local_product.specs.Obstruction.{IsObstructionAt, IsHeavyAt, IsLightAt, IsConsistentBefore, HasLightRays, IsStoppedByWeight};
 ghost use Rattle.local_product.specs.Workspace.{IsWorkspaceOf};
 
-use crate::carrying::{AXIS_X, AXIS_Y, highest_part};
+use crate::carrying::{AXIS_X, AXIS_Y, Extent, image};
 use crate::half_walls::{HalfWall, half_walls};
 use crate::one_side::edge_axis;
 use crate::product::is_light;
@@ -33,53 +33,8 @@ fn exponent_of(axis: Axis) -> Exp
     }
 }
 
-/// The correction, from the image of one axis, to one side of which all walls on the point turn.
-fn from_one_image(
-    alloc: Global,
-    tables: &LocalTables,
-    p: &Point,
-    halves: &[HalfWall],
-    axis: Axis,
-    sum: &mut SumByDegree,
-    values: &mut PowerValues,
-) -> Result<LieElement, AllocError>
-    requires point { IsLightPoint tables.now p.now halves.now }
-    requires edge { IsEdge p.now axis halves.now }
-    requires parts { length sum.old ≡ suc tables.now.order }
-    ensures parts { length sum.new ≡ suc tables.now.order }
-    ensures correction { IfOk result
-        (IsObstructionAt tables.now.diagram p.now tables.now.order) }
-{
-    let order = tables.order();
-    let m = exponent_of(axis);
-    let image = highest_part(alloc, sum, values, order, halves, m)?;
-    let h = leading_from(alloc, axis, &image, order)?;
-    Ok(h)
-}
-
-/// The correction, from the images of both axes.
-fn from_both_images(
-    alloc: Global,
-    tables: &LocalTables,
-    p: &Point,
-    halves: &[HalfWall],
-    sum: &mut SumByDegree,
-    values: &mut PowerValues,
-) -> Result<LieElement, AllocError>
-    requires point { IsLightPoint tables.now p.now halves.now }
-    requires parts { length sum.old ≡ suc tables.now.order }
-    ensures parts { length sum.new ≡ suc tables.now.order }
-    ensures correction { IfOk result
-        (IsObstructionAt tables.now.diagram p.now tables.now.order) }
-{
-    let order = tables.order();
-    let x = highest_part(alloc, sum, values, order, halves, AXIS_X)?;
-    let y = highest_part(alloc, sum, values, order, halves, AXIS_Y)?;
-    let h = leading(alloc, &x, &y, order)?;
-    Ok(h)
-}
-
-/// The correction, from as few images as tell it.
+/// The correction: from the image of one axis, where all walls on the point turn to one side of it, or from
+/// those of both.
 fn light_correction(
     alloc: Global,
     tables: &LocalTables,
@@ -94,10 +49,17 @@ fn light_correction(
     ensures correction { IfOk result
         (IsObstructionAt tables.now.diagram p.now tables.now.order) }
 {
-    match edge_axis(halves, p) {
-        Some(axis) => from_one_image(alloc, tables, p, halves, axis, sum, values),
-        None => from_both_images(alloc, tables, p, halves, sum, values),
+    let order = tables.order();
+    if let Some(axis) = edge_axis(halves, p) {
+        let m = exponent_of(axis);
+        let one = image(alloc, sum, values, order, halves, m, Extent::Highest)?;
+        let h = leading_from(alloc, axis, &one, order)?;
+        return Ok(h);
     }
+    let x = image(alloc, sum, values, order, halves, AXIS_X, Extent::Highest)?;
+    let y = image(alloc, sum, values, order, halves, AXIS_Y, Extent::Highest)?;
+    let h = leading(alloc, &x, &y, order)?;
+    Ok(h)
 }
 
 /// The correction, or None where the weight is above 2^126.
@@ -119,11 +81,9 @@ fn correction<'a>(
     ensures rays { IfOk result
         (λ o. IfSome o (λ h. HasLightRays tables.now.diagram p.now tables.now.order)) }
 {
-    let order = tables.order();
     half_walls(&mut workspace.halves, tables, p)?;
-    let halves = workspace.halves.as_slice();
-    let sum = &mut workspace.sum;
-    let values = &mut workspace.values;
+    let (halves, order) = (workspace.halves.as_slice(), tables.order());
+    let (sum, values) = (&mut workspace.sum, &mut workspace.values);
     if !is_light(alloc, sum, values, order, halves)? {
         return Ok(None);
     }

@@ -11,7 +11,7 @@ ghost use Rattle.local_product.specs.Workspace.{IsWorkspaceOf};
 ghost use Rattle.local_product.specs.Obstruction.{weight_at, image_at, IsLightAt};
 
 use crate::bound::is_surely_light;
-use crate::carrying::{AXIS_X, AXIS_Y, image};
+use crate::carrying::{AXIS_X, AXIS_Y, Extent, image};
 use crate::half_walls::{HalfWall, half_walls};
 use crate::majorants::weight_of;
 use crate::tables::{LocalTables, tables_of};
@@ -92,8 +92,8 @@ fn images_with<'a>(
     let halves = workspace.halves.as_slice();
     let sum = &mut workspace.sum;
     let values = &mut workspace.values;
-    let x = image(alloc, sum, values, order, halves, AXIS_X)?;
-    let y = image(alloc, sum, values, order, halves, AXIS_Y)?;
+    let x = image(alloc, sum, values, order, halves, AXIS_X, Extent::Whole)?;
+    let y = image(alloc, sum, values, order, halves, AXIS_Y, Extent::Whole)?;
     Ok((x, y))
 }
 

@@ -1,4 +1,4 @@
-// The supporting line of a run, by numbers of its own.
+// The supporting lines of runs, by numbers of their own.
 
 ghost use Rattle.std.specs.Prelude.{◌≡◌, ◌≤◌, ◌≤ℤ◌, ◌^◌, pos, nat_abs, IsTrue};
 ghost use Rattle.limits.specs.Limits.{largest_coordinate};
@@ -6,7 +6,8 @@ ghost use Rattle.scattering.specs.SupportingLine.{offset};
 ghost use Rattle.plane_geom.specs.Shown.{point_of, vector_of};
 
 use plane_geom::{Direction, Point, minor};
-use scatter_diagram::Wall;
+use scatter_diagram::{Wall, line_direction};
+use std::cmp::Ordering;
 
 /// A line of the plane: its points p are those with det(dir, p) = over / under, where `over` is at most 2^81.
 ///
@@ -23,8 +24,9 @@ pub struct RunLine {
 }
 
 impl RunLine {
+    ghost use Rattle.scattering.specs.SupportingLine.{supporting_line};
     ghost use Rattle.scatter_diagram.specs.Shown.{wall_of};
-    ghost use Rattle.local_product.specs.RunLines.{seen_line, same_place, IsLineOf, IsThrough};
+    ghost use Rattle.local_product.specs.RunLines.{seen_line, place_order, IsThrough, IsBefore};
 
     /// The line through a point along a direction.
     pub fn through(p: &Point, dir: &Direction) -> RunLine
@@ -40,33 +42,32 @@ impl RunLine {
 
     /// The supporting line of a wall.
     pub fn of_wall(wall: &Wall) -> RunLine
-        ensures { IsLineOf (wall_of wall.now) result }
+        ensures { seen_line result ≡ supporting_line (wall_of wall.now) }
     {
-        RunLine::through(&wall.at, &wall.dir)
+        RunLine::through(&wall.at, &line_direction(&wall.dir))
     }
 
-    /// The line through a point along the direction of this one: the last such line, where it has that
-    /// direction already.
-    pub fn moved_to(&self, p: &Point, last: RunLine) -> RunLine
-        requires { IsThrough (point_of p.now) last }
+    /// The line through a point that is parallel to this one.
+    pub fn parallel(&self, p: &Point) -> RunLine
         ensures point { IsThrough (point_of p.now) result }
-        ensures direction { vector_of result.dir ≡ vector_of self.now.dir }
+        ensures direction { result.dir ≡ self.now.dir }
     {
-        if are_equal(&last.dir, &self.dir) {
-            last
-        } else {
-            RunLine::through(p, &self.dir)
-        }
+        RunLine::through(p, &self.dir)
     }
 
-    /// Whether two lines of one direction are one.
-    pub fn is_at(&self, other: &RunLine) -> bool
-        ensures { result ≡ same_place (seen_line self.now) (seen_line other.now) }
+    /// How two parallel lines stand: by their places.
+    pub fn compare(&self, other: &RunLine) -> Ordering
+        ensures { result ≡ place_order (seen_line self.now) (seen_line other.now) }
     {
-        if self.under == other.under {
-            return self.over == other.over;
-        }
-        self.over * i128::from(other.under) == other.over * i128::from(self.under)
+        let first = self.over * i128::from(other.under);
+        first.cmp(&(other.over * i128::from(self.under)))
+    }
+
+    /// Whether a line stands before another one that is parallel to it.
+    pub fn is_before(&self, other: &RunLine) -> bool
+        ensures { IsTrue result → IsBefore self.now other.now }
+    {
+        are_equal(&self.dir, &other.dir) && self.compare(other).is_lt()
     }
 }
 

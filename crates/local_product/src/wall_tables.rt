@@ -29,8 +29,8 @@ fn tables_of_wall<'a>(
     ensures wall { IfOk result (λ t. wall_of t.wall.now ≡ wall_of wall.now) }
     ensures tables { IfOk result (HasTables order) }
 {
-    // that these are read tells that the function's order is at most 24
-    let _terms = wall.function.terms();
+    // the order tells how far the function's exponents go
+    let _order = wall.function.order();
     let powers = PowerTable::new(alloc, Arithmetic::Wrapping, order, &wall.function)?;
     let masses = MassTable::new(alloc, order, &wall.dir, &wall.function)?;
     Ok(WallTables {

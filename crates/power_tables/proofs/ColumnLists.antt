@@ -14,8 +14,8 @@ use Rattle.scattering.proofs.Pairing.{coef-append}
 use Rattle.trunc_series.proofs.Terms.{no_term, at, sum_of-append}
 use Rattle.trunc_series.proofs.Coefficients.{add-zero}
 use Rattle.trunc_series.proofs.Kept.{kept-zero, keepable-zero}
-use Rattle.term_sums.specs.Sums.{IsKeptValue, AreKeptValues, StandsFor}
-use Rattle.term_sums.proofs.TermLists.{stands-itself, stands-set, stands-pushed, stands-more}
+use Rattle.trunc_series.specs.Sums.{IsKeptValue, AreKeptValues, StandsFor}
+use Rattle.trunc_series.proofs.TermLists.{stands-itself, stands-set, stands-pushed, stands-more}
 use Rattle.power_tables.specs.Tables.{column_sum}
 use Rattle.power_tables.specs.Made.{TermVec, GetsAt, GetsColumn, IsColumnOf, AreColumnsOf, HasKey}
 

@@ -6,6 +6,7 @@ use Rattle.std.proofs.Math.Nat.{div-le_self, lt-mul-div-succ}
 use Rattle.std.proofs.Math.IntN.{*ℤ_comm}
 use Rattle.sum_algebra.proofs.Ring.{ring}
 use Rattle.sum_algebra.proofs.IntegerRing.{ints_ring, ◌:+◌, ◌:*◌, X, Y, Z}
+use Rattle.scattering.proofs.Lists.{Every-filter}
 use Rattle.scattering.specs.Collections.{Every}
 use Rattle.scattering.specs.Series.{Exp, Key, Sum, Same, IsWallFunction, degree, key_eq, coef, one, rest, absolute, pow}
 use Rattle.scattering.specs.ThetaProduct.{of_degree}
@@ -18,10 +19,9 @@ use Rattle.trunc_series.specs.Arithmetic.{kept, IsKeepable}
 use Rattle.trunc_series.proofs.Kept.{keepable-mul, kept-same_mul}
 use Rattle.trunc_series.proofs.Coefficients.{keepable-coef}
 use Rattle.trunc_series.proofs.PowerLaws.{pow-keepable}
-use Rattle.trunc_series.proofs.Rows.{Every-filter}
 use Rattle.degree_theory.specs.Parts.{scaled, linear_combination}
 use Rattle.degree_theory.proofs.PartLaws.{part-is-read, part-of-power, part-of-majorant_power, power-begins-late}
-use Rattle.term_sums.proofs.TermLists.{keepable-values}
+use Rattle.trunc_series.proofs.TermLists.{keepable-values}
 use Rattle.power_tables.specs.Parts.{multiplier}
 use Rattle.power_tables.specs.Tables.{factor, column_sum, column_combination}
 use Rattle.power_tables.specs.Made.{others, AreColumns}

@@ -13,7 +13,7 @@ use Rattle.trunc_series.specs.declared.key.Key.{Key as CodeKey}
 use Rattle.trunc_series.specs.Arithmetic.{kept, IsKeepable}
 use Rattle.trunc_series.proofs.Coefficients.{keepable-coef}
 use Rattle.trunc_series.proofs.Kept.{keepable-kept, kept-mul_left}
-use Rattle.term_sums.proofs.TermLists.{keepable-values}
+use Rattle.trunc_series.proofs.TermLists.{keepable-values}
 use Rattle.degree_theory.specs.Parts.{scaled}
 use Rattle.power_tables.specs.Kept.{AreKeepable, numbers_of}
 use Rattle.power_tables.specs.Tables.{factor, column_sum, column_combination}

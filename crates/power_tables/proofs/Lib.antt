@@ -1,4 +1,3 @@
-pub mod AddedProducts
 pub mod Alike
 pub mod ColumnLists
 pub mod Combinations

@@ -1,5 +1,5 @@
 -- Parts of u alone, made of lists of its terms.
-use Rattle.std.proofs.Common.{◌≡◌, ℕ, zero, suc, ◌+◌, ◌<◌, refl, sym, subst, ap, ◌∙◌, List, [], ◌∷◌, ◌++◌, map, length, get_or, take, filter, zip, Bool, true, false, cond, ◌≢◌, arith}
+use Rattle.std.proofs.Common.{◌≡◌, ℕ, suc, ◌+◌, ◌<◌, refl, sym, subst, ap, ◌∙◌, List, [], ◌∷◌, ◌++◌, map, length, take, filter, zip, Bool, true, false, cond, ◌≢◌, arith}
 use Rattle.std.specs.Prelude.{ℤ, ◌==◌}
 use Rattle.std.proofs.lemmas.List.{take_more, append-nil}
 use Rattle.scattering.specs.Series.{Term, Sum, degree}
@@ -13,20 +13,9 @@ use Rattle.power_tables.proofs.ColumnLists.{zip-push}
 use Rattle.power_tables.specs.declared.table.Part.{Part}
 use Rattle.power_tables.specs.Made.{IsLinearPart, ArePartsBy}
 
-unzipped : (ts : Terms) → zip (map (λ (t : CodeKey × ℤ). t.0) ts) (map (λ (t : CodeKey × ℤ). t.1) ts) ≡ ts
-unzipped [] = refl
-unzipped (t ∷ ts) = ap (λ (r : Terms). t ∷ r) (unzipped ts)
-
 pub length-map : {A B : Type 0} (f : A → B) (xs : List A) → length (map f xs) ≡ length xs
 length-map f [] = refl
 length-map f (x ∷ xs) = ap suc (length-map f xs)
-
-pub linear-part : (u : Sum) (ts : Terms) (p : Part) → sum_of ts ≡ u → p.keys.items ≡ map (λ (t : CodeKey × ℤ). t.0) ts → p.first.items ≡ map (λ (t : CodeKey × ℤ). t.1) ts → length p.higher.items ≡ 0 → IsLinearPart u p
-linear-part u ts p e k n h = record {
-  terms = ap (λ (ks : List CodeKey). sum_of (zip ks p.first.items)) k ∙ ap (λ (vs : List ℤ). sum_of (zip (map (λ (t : CodeKey × ℤ). t.0) ts) vs)) n ∙ ap sum_of (unzipped ts) ∙ e;
-  lengths = ap length k ∙ length-map (λ (t : CodeKey × ℤ). t.0) ts ∙ sym (length-map (λ (t : CodeKey × ℤ). t.1) ts) ∙ sym (ap length n);
-  alone = h;
-}
 
 -- ---- terms of one degree, picked one after the other
 
@@ -65,8 +54,3 @@ term-passed d e ts i f h v o s =
 pub parts-push : (F : ℕ → Sum) (i j : ℕ) (ps : List Part) (p : Part) → ArePartsBy F i ps → i + length ps ≡ j → IsLinearPart (F j) p → ArePartsBy F i (ps ++ p ∷ [])
 parts-push F i j [] p h e q = (subst (λ (n : ℕ). IsLinearPart (F n) p) (let w : j ≡ i = omega (arith, e) in w) q, tt)
 parts-push F i j (o ∷ ps) p h e q = (h.0, parts-push F (suc i) j ps p h.1 (omega (arith, e)) q)
-
-pub part-by : (F : ℕ → Sum) (i j : ℕ) (ps : List Part) (d : Part) → ArePartsBy F i ps → j < length ps → IsLinearPart (F (i + j)) (get_or ps j d)
-part-by F i j [] d h l = absurd (omega (arith, l))
-part-by F i zero (p ∷ ps) d h l = subst (λ (n : ℕ). IsLinearPart (F n) p) (let w : i ≡ i + 0 = omega arith in w) h.0
-part-by F i (suc j) (p ∷ ps) d h l = subst (λ (n : ℕ). IsLinearPart (F n) (get_or ps j d)) (let w : suc i + j ≡ i + suc j = omega arith in w) (part-by F (suc i) j ps d h.1 (omega (arith, l)))

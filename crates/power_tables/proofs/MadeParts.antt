@@ -7,7 +7,7 @@ use Rattle.std.specs.Global.{Global}
 use Rattle.scattering.specs.Collections.{In, Every}
 use Rattle.scattering.specs.Series.{Key, Term, Sum, degree, coef, one, rest, absolute, pow}
 use Rattle.scattering.specs.ThetaProduct.{of_degree}
-use Rattle.scattering.proofs.Lists.{Every-from_In, Every-at, In-map}
+use Rattle.scattering.proofs.Lists.{Every-from_In, Every-at, In-map, Every-filter}
 use Rattle.scattering.proofs.Coefficients.{coef-cut}
 use Rattle.trunc_series.specs.declared.arithmetic.Arithmetic.{Arithmetic}
 use Rattle.trunc_series.specs.declared.arithmetic.Arithmetic.TheVariants.{Wrapping, Saturating}
@@ -15,12 +15,12 @@ use Rattle.trunc_series.specs.declared.key.Key.{Key as CodeKey}
 use Rattle.trunc_series.specs.Arithmetic.{kept, IsKeepable}
 use Rattle.trunc_series.specs.Reduced.{absolute_sum}
 use Rattle.trunc_series.specs.Shown.{IsValid, key_of, sum_of}
-use Rattle.trunc_series.proofs.Rows.{Every-filter, level-degree}
+use Rattle.trunc_series.proofs.Rows.{level-degree}
 use Rattle.trunc_series.proofs.Congruence.{mul-comm}
 use Rattle.trunc_series.proofs.PowerLaws.{one-mul_cut}
 use Rattle.trunc_series.proofs.Majorants.{absolute-reduced}
 use Rattle.trunc_series.proofs.Inverses.{rest-valid}
-use Rattle.term_sums.specs.Sums.{AreKeptValues}
+use Rattle.trunc_series.specs.Sums.{AreKeptValues}
 use Rattle.degree_theory.proofs.PartLaws.{part-is-read}
 use Rattle.power_tables.specs.declared.table.Part.{Part}
 use Rattle.power_tables.specs.Parts.{GrowsBy}

@@ -7,13 +7,12 @@ use Rattle.std.proofs.lemmas.List.{take_more}
 use Rattle.scattering.specs.Collections.{Every}
 use Rattle.scattering.specs.Series.{Key, Term, Sum, degree, key_mul, one, mul, pow}
 use Rattle.scattering.specs.ThetaProduct.{of_degree}
-use Rattle.scattering.proofs.Lists.{Every-implies, Every-append}
+use Rattle.scattering.proofs.Lists.{Every-implies, Every-append, Every-filter}
 use Rattle.trunc_series.specs.declared.arithmetic.Arithmetic.{Arithmetic}
 use Rattle.trunc_series.specs.Arithmetic.{kept, IsKeepable}
 use Rattle.trunc_series.specs.Reduced.{Terms, IsNearKey, GrowsSlowly}
 use Rattle.trunc_series.specs.Shown.{sum_of, term_of}
 use Rattle.trunc_series.proofs.Terms.{no_term, at, sum_of-append}
-use Rattle.trunc_series.proofs.Rows.{Every-filter}
 use Rattle.trunc_series.proofs.Congruence.{mul-comm}
 use Rattle.trunc_series.proofs.PowerLaws.{mul-every, pow-keepable}
 use Rattle.trunc_series.proofs.PowersNear.{tame-near}
@@ -21,8 +20,8 @@ use Rattle.trunc_series.proofs.Coefficients.{abs-add}
 use Rattle.trunc_series.proofs.Kept.{keepable-one, kept-one}
 use Rattle.trunc_series.proofs.Products.{low-mul}
 use Rattle.scattering.proofs.ShiftedSums.{degree-mul}
-use Rattle.term_sums.specs.Sums.{AreKeptValues, StandsFor}
-use Rattle.term_sums.proofs.TermLists.{keepable-values, stands-every}
+use Rattle.trunc_series.specs.Sums.{AreKeptValues, StandsFor}
+use Rattle.trunc_series.proofs.TermLists.{keepable-values, stands-every}
 use Rattle.power_tables.specs.declared.table.Part.{Part}
 use Rattle.power_tables.specs.Made.{TermVec, IsOthers, IsWithinDegrees, IsPower, ArePowersFrom, AreLevels, HasLevels, AreListed}
 use Rattle.power_tables.proofs.Alike.{Alike, alike-refl, alike-mul}

@@ -11,8 +11,8 @@ use Rattle.trunc_series.specs.Arithmetic.{kept, IsKeepable}
 use Rattle.trunc_series.specs.Shown.{key_of}
 use Rattle.trunc_series.proofs.Coefficients.{keepable-coef}
 use Rattle.trunc_series.proofs.Kept.{keepable-add, keepable-mul, keepable-kept, keepable-zero, kept-kept, kept-add_right, kept-same_left, kept-same_right}
-use Rattle.term_sums.specs.Sums.{AreKeptValues}
-use Rattle.term_sums.proofs.TermLists.{keepable-values, value-kept}
+use Rattle.trunc_series.specs.Sums.{AreKeptValues}
+use Rattle.trunc_series.proofs.TermLists.{keepable-values, value-kept}
 use Rattle.degree_theory.specs.Parts.{scaled}
 use Rattle.power_tables.specs.Kept.{AreKeepable}
 use Rattle.power_tables.specs.Tables.{column_sum}

@@ -4,6 +4,7 @@ use Rattle.std.specs.Prelude.{ℤ, pos, ◌*ℤ◌, ◌-ℤ◌, nat_abs}
 use Rattle.std.specs.Global.{Global}
 use Rattle.std.proofs.lemmas.Int.{ints}
 use Rattle.std.proofs.Math.Nat.{div-le_self, div-mul-le_self}
+use Rattle.scattering.proofs.Lists.{Every-filter}
 use Rattle.scattering.specs.Collections.{Every}
 use Rattle.scattering.specs.Series.{Exp, Key, Term, Sum, IsWallFunction, degree, coef, rest, absolute, geometric}
 use Rattle.scattering.proofs.Pairing.{coef-append}
@@ -15,10 +16,9 @@ use Rattle.trunc_series.specs.Reduced.{IsNearKey, absolute_sum}
 use Rattle.trunc_series.specs.Shown.{HasNearTerms, key_of}
 use Rattle.trunc_series.proofs.Coefficients.{add-zero}
 use Rattle.trunc_series.proofs.PowerLaws.{pow-keepable}
-use Rattle.trunc_series.proofs.Rows.{Every-filter}
 use Rattle.trunc_series.proofs.Inverses.{powers-keepable}
 use Rattle.trunc_series.proofs.Majorants.{absolute-whole}
-use Rattle.term_sums.specs.Sums.{AreKeptValues}
+use Rattle.trunc_series.specs.Sums.{AreKeptValues}
 use Rattle.degree_theory.specs.Parts.{choose, multichoose, scaled}
 use Rattle.degree_theory.proofs.Binomials.{row-is-products, choose-zero}
 use Rattle.degree_theory.proofs.PartLaws.{part-is-read}

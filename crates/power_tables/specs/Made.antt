@@ -4,21 +4,20 @@
 --     code_others rule f           the same, as it is kept
 --     IsOthers rule m u            u is kept so, and has order m
 --     ArePowersFrom rule k u r ps  ps are u^r, u^(r+1), .. to degree k
---     AreLowParts u i ps           ps are the terms of u to the degrees i, i + 1, ..
 --     IsMade rule f l i p          p is the part of degree i of a table, where u begins at degree l
 use Rattle.std.specs.Prelude.{◌≡◌, ℕ, suc, ◌*◌, ◌/◌, ◌≤◌, ◌⊎◌, List, [], ◌∷◌, ◌++◌, map, take, nat_abs, ℤ, length, Vec}
 use Rattle.std.specs.Global.{Global}
 use Rattle.limits.specs.Limits.{highest_order}
 use Rattle.scattering.specs.Collections.{In, Every}
-use Rattle.scattering.specs.Series.{Key, Sum, coef, degree, cut, pow, rest, absolute}
+use Rattle.scattering.specs.Series.{Key, Sum, coef, degree, pow, rest, absolute}
 use Rattle.scattering.specs.ThetaProduct.{of_degree}
 use Rattle.trunc_series.specs.declared.arithmetic.Arithmetic.{Arithmetic}
 use Rattle.trunc_series.specs.declared.arithmetic.Arithmetic.TheVariants.{Wrapping, Saturating}
 use Rattle.trunc_series.specs.declared.key.Key.{Key as CodeKey}
-use Rattle.trunc_series.specs.Arithmetic.{kept, IsKeepable}
-use Rattle.trunc_series.specs.Reduced.{IsKeptAs, GrowsSlowly, IsNearKey, absolute_sum}
+use Rattle.trunc_series.specs.Arithmetic.{kept}
+use Rattle.trunc_series.specs.Reduced.{IsKeptAs, GrowsSlowly, absolute_sum}
 use Rattle.trunc_series.specs.Shown.{IsValid, key_of, term_of, sum_of}
-use Rattle.term_sums.specs.Sums.{AreKeptValues, StandsFor}
+use Rattle.trunc_series.specs.Sums.{AreKeptValues, StandsFor}
 use Rattle.power_tables.specs.declared.table.Part.{Part}
 use Rattle.power_tables.specs.Parts.{GrowsBy}
 use Rattle.power_tables.specs.Kept.{numbers_of}
@@ -163,14 +162,3 @@ ArePartsBy F i (p ∷ ps) = IsLinearPart (F i) p × ArePartsBy F (suc i) ps
 -- of the degrees i, i + 1, ..
 abbrev pub AreLinearParts : Sum → ℕ → List Part → Type 0
 AreLinearParts u i parts = ArePartsBy (λ j. of_degree j u) i parts
-
--- of all terms to the degrees i, i + 1, ..
-abbrev pub AreLowParts : Sum → ℕ → List Part → Type 0
-AreLowParts u i parts = ArePartsBy (λ j. cut j u) i parts
-
--- those of a sum whose terms can be multiplied
-pub record AreLowRows (rule : Arithmetic) (lows : List Part) : Type 0 where
-  pub sum : Sum
-  pub near : Every (λ t. IsNearKey t.0) sum
-  pub keepable : Every (λ t. IsKeepable rule t.1) sum
-  pub parts : AreLowParts sum 0 lows

@@ -8,7 +8,7 @@ use Rattle.scattering.specs.Series.{Key, Sum, coef, degree, pow, power, geometri
 use Rattle.trunc_series.specs.declared.arithmetic.Arithmetic.{Arithmetic}
 use Rattle.trunc_series.specs.declared.arithmetic.Arithmetic.TheVariants.{Wrapping, Saturating}
 use Rattle.trunc_series.specs.Arithmetic.{kept, IsKeepable}
-use Rattle.term_sums.specs.Sums.{AreKeptValues}
+use Rattle.trunc_series.specs.Sums.{AreKeptValues}
 
 -- a key may stand twice
 pub record IsPartOf (rule : Arithmetic) (i : ℕ) (p g : Sum) : Type 0 where

@@ -10,7 +10,7 @@ use Rattle.trunc_series.specs.declared.arithmetic.Arithmetic.{Arithmetic}
 use Rattle.trunc_series.specs.declared.arithmetic.Arithmetic.TheVariants.{Wrapping, Saturating}
 use Rattle.trunc_series.specs.declared.key.Key.{Key as CodeKey}
 use Rattle.trunc_series.specs.Arithmetic.{kept}
-use Rattle.term_sums.specs.Sums.{AreKeptValues}
+use Rattle.trunc_series.specs.Sums.{AreKeptValues}
 use Rattle.degree_theory.specs.Parts.{choose, multichoose, scaled}
 use Rattle.power_tables.specs.declared.rows.Family.{Family}
 use Rattle.power_tables.specs.declared.rows.Family.TheVariants.{Above, Below, Multisets}

@@ -15,7 +15,7 @@ use Rattle.trunc_series.specs.declared.key.Key.{Key as CodeKey}
 use Rattle.trunc_series.specs.Arithmetic.{kept, IsKeepable}
 use Rattle.trunc_series.specs.Reduced.{IsNearKey}
 use Rattle.trunc_series.specs.Shown.{key_of, sum_of}
-use Rattle.term_sums.specs.Sums.{AreKeptValues}
+use Rattle.trunc_series.specs.Sums.{AreKeptValues}
 use Rattle.degree_theory.specs.Parts.{choose, multichoose, scaled}
 use Rattle.power_tables.specs.Parts.{IsPartOf, GrowsBy, multiplier}
 

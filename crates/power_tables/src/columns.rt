@@ -4,15 +4,14 @@ ghost use Rattle.std.specs.Prelude.{◌≡◌, ◌≤◌, ◌<◌, IfOk, OnOk, l
 ghost use Rattle.scattering.specs.Collections.{Every};
 ghost use Rattle.trunc_series.specs.declared.key.Key.{Key as CodeKey};
 ghost use Rattle.trunc_series.specs.Shown.{sum_of};
-ghost use Rattle.term_sums.specs.Sums.{AreKeptValues, IsKeptValue};
+ghost use Rattle.trunc_series.specs.Sums.{AreKeptValues, IsKeptValue};
 ghost use Rattle.power_tables.specs.Tables.{column_sum};
 ghost use Rattle.power_tables.specs.Made.{GetsAt, GetsColumn, HasLists};
 
 use crate::table::Part;
 use std::alloc::{AllocError, Global};
-use term_sums::{TermSum, same};
 use trunc_series::Key;
-use trunc_series::sorted_terms::{Arithmetic, sum};
+use trunc_series::sorted_terms::{Arithmetic, TermSum, same, sum};
 
 /// A place of the key in the list, where `found` tells of one, or the number of keys.
 fn place_of(keys: &[Key], found: &TermSum, key: &Key) -> usize

@@ -6,17 +6,16 @@ ghost use Rattle.scattering.specs.Collections.{Every};
 ghost use Rattle.scattering.specs.Series.{Sum, degree, cut, mul};
 ghost use Rattle.scattering.specs.ThetaProduct.{of_degree};
 ghost use Rattle.trunc_series.specs.Shown.{sum_of};
-ghost use Rattle.term_sums.specs.Sums.{AreKeptValues, StandsFor};
+ghost use Rattle.trunc_series.specs.Sums.{AreKeptValues, StandsFor};
 ghost use Rattle.trunc_series.specs.Reduced.{IsNearKey};
-ghost use Rattle.power_tables.specs.Made.{code_others, IsOthers, ArePowersFrom, AreLevels, AreListed, AreMadeOf, IsLinearPart, AreLinearParts, AreLowParts, AreLowRows};
+ghost use Rattle.power_tables.specs.Made.{code_others, IsOthers, ArePowersFrom, AreLevels, AreListed, AreMadeOf, IsLinearPart, AreLinearParts};
 
 use crate::columns::part_of;
 use crate::table::Part;
 use std::alloc::{AllocError, Global};
-use term_sums::TermSum;
 use trunc_series::Key;
 use trunc_series::sorted_terms::{
-    Arithmetic, absolutes, level, low_terms, one_term, without_constant,
+    Arithmetic, LowRows, TermSum, absolutes, level, multiply_into, one_term, without_constant,
 };
 
 /// The terms of f - 1, or of |f| - 1 where numbers saturate.
@@ -47,34 +46,6 @@ pub fn least_degree(terms: &[(Key, i128)], most: u32) -> u32
         least = least.min(terms[i].0.degree());
     }
     least
-}
-
-/// The keys of terms.
-fn keys_of(alloc: Global, terms: &[(Key, i128)]) -> Result<Vec<Key>, AllocError>
-    ensures { IfOk result (λ r. r.items ≡ map (λ t. t.0) terms.now) }
-{
-    terms.iter().map(|t| t.0).collect(alloc)
-}
-
-/// The coefficients of terms.
-fn numbers_of(alloc: Global, terms: &[(Key, i128)]) -> Result<Vec<i128>, AllocError>
-    ensures { IfOk result (λ r. r.items ≡ map (λ t. t.1) terms.now) }
-{
-    terms.iter().map(|t| t.1).collect(alloc)
-}
-
-/// Some terms of u as a part of it alone.
-fn part_alone(alloc: Global, terms: &[(Key, i128)]) -> Result<Part, AllocError>
-    ensures { IfOk result (IsLinearPart (sum_of terms.now)) }
-{
-    let keys = keys_of(alloc, terms)?;
-    let first = numbers_of(alloc, terms)?;
-    let higher = Vec::new(alloc);
-    Ok(Part {
-        keys,
-        first,
-        higher,
-    })
 }
 
 /// The part of u alone.
@@ -116,54 +87,6 @@ fn linear_parts(
     Ok(parts)
 }
 
-/// The terms of u to a degree.
-fn low_part(alloc: Global, degree: u32, u: &[(Key, i128)]) -> Result<Part, AllocError>
-    ensures { IfOk result (IsLinearPart (cut degree (sum_of u.now))) }
-{
-    let terms = low_terms(alloc, degree, u)?;
-    part_alone(alloc, terms.as_slice())
-}
-
-/// The terms of u to each degree from 0 to `order`.
-fn low_parts(alloc: Global, order: u32, u: &[(Key, i128)]) -> Result<Vec<Part>, AllocError>
-    requires order { order ≤ highest_order }
-    ensures parts { IfOk result (λ r. AreLowParts (sum_of u.now) 0 r.items) }
-    ensures count { IfOk result (λ r. length r.items ≡ order + 1) }
-{
-    let mut parts = Vec::with_capacity(alloc, order as usize + 1)?;
-    for degree in 0..order + 1 {
-        parts.push(low_part(alloc, degree, u)?)?;
-    }
-    Ok(parts)
-}
-
-/// Adds the product of a list with u, without terms of degree above `order`. `lows` has the terms of u to each
-/// degree, so that no pair is formed whose degree is above the order.
-fn add_product(
-    rule: Arithmetic,
-    order: u32,
-    terms: &[(Key, i128)],
-    lows: &[Part],
-    sum: &mut TermSum,
-) -> Result<(), AllocError>
-    requires order { order ≤ highest_order }
-    requires near { Every (λ t. IsNearKey t.0) (sum_of terms.now) }
-    requires low { Every (λ t. degree t.0 ≤ order) (sum_of terms.now) }
-    requires values { AreKeptValues rule (sum_of terms.now) }
-    requires lows { AreLowRows rule lows.now }
-    requires count { length lows.now ≡ order + 1 }
-    requires none { sum.old ≡ [] }
-    ensures { OnOk result ((u : Sum) → AreLowParts u 0 lows.now
-        → StandsFor rule sum.new (mul order (sum_of terms.now) u)) }
-{
-    for i in 0..terms.len() {
-        let t = &terms[i];
-        let low = &lows[(order - t.0.degree()) as usize];
-        sum.add_row(rule, t, low.keys.as_slice(), low.first.as_slice())?;
-    }
-    Ok(())
-}
-
 /// The first `count` powers u, u^2 and so on, without terms of degree above `order`. `m` is the order of u.
 fn powers_of(
     alloc: Global,
@@ -178,13 +101,12 @@ fn powers_of(
     ensures powers { IfOk result (λ r. ArePowersFrom rule order (sum_of u.now) 1 r.items) }
     ensures count { IfOk result (λ r. length r.items ≡ count) }
 {
-    let lows = low_parts(alloc, order, u)?;
+    let lows = LowRows::new(alloc, order, u)?;
     let mut next = TermSum::new(alloc);
     let mut powers = Vec::new(alloc);
     let mut last = one_term(alloc)?;
     for i in 0..count {
-        next.clear();
-        add_product(rule, order, last.as_slice(), lows.as_slice(), &mut next)?;
+        multiply_into(&mut next, rule, last.as_slice(), &lows)?;
         last = Vec::from_slice(alloc, next.terms())?;
         powers.push(Vec::from_slice(alloc, next.terms())?)?;
     }

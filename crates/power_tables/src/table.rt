@@ -82,7 +82,7 @@ impl PowerTable {
         self.least
     }
 
-    /// The highest degree.
+    /// The order of the table: the degree, at most 24, to which it has the powers.
     pub fn order(&self) -> u32
         ensures value { result ≡ self.now.order }
         ensures most { result ≤ highest_order }
@@ -128,6 +128,8 @@ impl PowerTable {
         self.parts.as_slice()
     }
 
+    /// How coefficients are kept: modulo 2^128, for powers of f, or saturating at 2^126 + 1, for those of its
+    /// majorant 1/(2 - |f|).
     pub fn rule(&self) -> Arithmetic
         ensures { result ≡ self.now.rule }
     {

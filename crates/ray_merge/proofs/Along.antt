@@ -1,5 +1,5 @@
 -- The terms along a direction, and their masses.
-use Rattle.std.proofs.Common.{◌≡◌, ℕ, ◌+◌, ◌≤◌, refl, sym, subst, ap, ◌∙◌, Bool, true, false, List, [], ◌∷◌, ◌++◌, take, drop, arith}
+use Rattle.std.proofs.Common.{◌≡◌, ℕ, ◌+◌, ◌≤◌, refl, sym, subst, ap, ◌∙◌, Bool, true, false, [], ◌∷◌, ◌++◌, arith}
 use Rattle.std.specs.Prelude.{ℤ, pos, negsuc, ◌+ℤ◌, ◌*ℤ◌, ◌-ℤ◌, ◌≤ℤ◌, int_le}
 use Rattle.std.proofs.lemmas.Int.{ints}
 use Rattle.std.proofs.lemmas.List.Elements.{filter-append}
@@ -11,12 +11,10 @@ use Rattle.scattering.specs.Series.{Exp, Term, Sum, mass_to, IsMultiple}
 use Rattle.scattering.specs.Plane.{IsDirection}
 use Rattle.plane_theory.proofs.Directions.{direction-not_origin}
 use Rattle.plane_theory.proofs.Points.{norm-positive}
-use Rattle.trunc_series.specs.declared.key.Key.{Key as CodeKey}
-use Rattle.trunc_series.specs.Shown.{sum_of}
-use Rattle.trunc_series.proofs.Terms.{sum_of-halves}
 use Rattle.trunc_series.proofs.Products.{mass-append}
-use Rattle.ray_merge.specs.Additions.{is_along, terms_along}
+use Rattle.ray_merge.specs.Additions.{is_along, terms_along, IsLightAlong}
 use Rattle.ray_merge.specs.Rays.{mass_along}
+use Rattle.ray_merge.proofs.Functions.{mass-one}
 
 turned : (j a b : ℤ) → a *ℤ (j *ℤ b) -ℤ b *ℤ (j *ℤ a) ≡ pos 0
 turned j a b = ring ints_ring (j ∷ a ∷ b ∷ []) (Y :* (X :* Z) :- Z :* (X :* Y)) nought refl
@@ -36,8 +34,9 @@ multiple-along d e h m =
 pub mass_along-append : (n : ℕ) (f g : Sum) (d : Exp) → mass_along n (f ++ g) d ≡ mass_along n f d + mass_along n g d
 mass_along-append n f g d = ap (mass_to n) (filter-append (λ (t : Term). is_along d t.0.exp) f g) ∙ mass-append n (terms_along d f) (terms_along d g)
 
-pub mass_along-halves : (n : ℕ) (ts : List (CodeKey × ℤ)) (i : ℕ) (d : Exp) → mass_along n (sum_of ts) d ≡ mass_along n (sum_of (take i ts)) d + mass_along n (sum_of (drop i ts)) d
-mass_along-halves n ts i d = ap (λ (f : Sum). mass_along n f d) (sum_of-halves ts i) ∙ mass_along-append n (sum_of (take i ts)) (sum_of (drop i ts)) d
+-- light where another sum is
+pub light-as : (n : ℕ) (f g : Sum) → ((d : Exp) → mass_along n g d ≡ mass_along n f d) → IsLightAlong n f → IsLightAlong n g
+light-as n f g e l d id = let a = mass-one n (terms_along d f) in let b = mass-one n (terms_along d g) in let c = l d id in let q = e d in omega (arith, a, b, c, q)
 
 pub mass_along-low : (n : ℕ) (f : Sum) (d : Exp) → mass_along n f d ≤ mass_to n f
 mass_along-low n [] d = omega arith

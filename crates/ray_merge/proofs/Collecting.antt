@@ -10,7 +10,7 @@ use Rattle.scattering.specs.Series.{Exp, Key, Sum, degree, IsMultiple}
 use Rattle.scattering.specs.Plane.{Point, IsDirection, point_eq, point_before}
 use Rattle.scattering.specs.Wall.{Wall, Outgoing}
 use Rattle.scattering.specs.Completion.{ray_before, IsReduced}
-use Rattle.scattering.specs.Correction.{Lie, Corrections, ratio_at, ray_coef, IsAdded}
+use Rattle.scattering.specs.Correction.{IsRatio, Lie, Corrections, ratio_at, ray_coef, IsAdded}
 use Rattle.scattering.proofs.Lists.{Every-implies, Every-append, Every-at, Every-from_In, pairs-append, map-append, or-first}
 use Rattle.scattering.proofs.Keys.{point_eq-same}
 use Rattle.scattering.proofs.Pairing.{skip-zero}
@@ -44,11 +44,11 @@ adds-at p h f ws a dist counts q d k id mk = go (point_eq p q) refl
         rw e (subst (λ (v : ℤ). (g : ℕ) × IsGcd (nat_abs k.exp.a) (nat_abs k.exp.b) g × (v *ℤ (ratio_at h k).den ≡ neg_ℤ (pos g *ℤ (ratio_at h k).num))) (sym (counts q d k id mk ∙ rw e refl)) (added-values h f a dist k (not-origin d id k.exp mk)))
     go false e = rw e (counts q d k id mk ∙ rw e refl)
 
-pub new-terms : (n : ℕ) (p : Point) (l : Lie) (f : Sum) (ws : List Wall) → HasTerms n p f ws → Every (λ t. degree t.0 ≡ n) f → AreAdded l f → Every (HasNewTerms n ((p, l) ∷ [])) ws
-new-terms n p l f ws h d a =
+pub new-terms : (n : ℕ) (p : Point) (l : Lie) (f : Sum) (ws : List Wall) → HasTerms n p f ws → Every (λ t. degree t.0 ≡ n) f → AreAdded l f → Every (λ t. IsRatio t.1) l → Every (HasNewTerms n ((p, l) ∷ [])) ws
+new-terms n p l f ws h d a e =
     Every-from_In _ ws (λ w i. record {
       degrees = Every-at _ ws w (of-keys (λ k. degree k ≡ n) n p f ws h d) i;
-      source = ((p, l), inl refl, Every-at (λ w. w.at ≡ p) ws w (all-start n p f ws h) i, (f, a, Every-at (λ w. load n w ≤ mass_along n f w.dir) ws w h.loads i));
+      source = ((p, l), inl refl, Every-at (λ w. w.at ≡ p) ws w (all-start n p f ws h) i, e, (f, a, Every-at (λ w. load n w ≤ mass_along n f w.dir) ws w h.loads i));
     })
 
 -- what one of the corrections adds
@@ -56,19 +56,16 @@ pub new-among : (n : ℕ) (c : Point × Lie) (cs : Corrections) (ws : List Wall)
 new-among n c cs ws i h = Every-implies (HasNewTerms n (c ∷ [])) (HasNewTerms n cs) ws (λ w t. record { degrees = t.degrees; source = among w t.source }) h
   where
     Source : Corrections → Wall → Type 0
-    Source bs w = (b : Point × Lie) × In b bs × (w.at ≡ b.0) × ((f : Sum) × AreAdded b.1 f × (load n w ≤ mass_along n f w.dir))
+    Source bs w = (b : Point × Lie) × In b bs × (w.at ≡ b.0) × Every (λ t. IsRatio t.1) b.1 × ((f : Sum) × AreAdded b.1 f × (load n w ≤ mass_along n f w.dir))
 
     among : (w : Wall) → Source (c ∷ []) w → Source cs w
-    among w s = (s.0, only s.0 s.1, s.2, s.3)
+    among w s = (s.0, only s.0 s.1, s.2, s.3, s.4)
       where
         only : (b : Point × Lie) → In b (c ∷ []) → In b cs
         only b (inl e) = subst (λ (x : Point × Lie). In x cs) (sym e) i
         only b (inr n) = absurd n
 
 -- ---- one correction after another
-
-pub adds-nothing : (cs : Corrections) → AddsUp cs cs []
-adds-nothing cs p d k id mk v a = subst (IsAdded cs p k) (sym (skip-zero v)) a
 
 pub adds-more : (cs : Corrections) (c : Point × Lie) (others : Corrections) (ws us : List Wall) → Every (λ b. IsTrue (point_before c.0 b.0)) others → AddsUp cs (c ∷ others) ws → AddsAt c us → AddsUp cs others (ws ++ us)
 adds-more cs c others ws us sorted h own p d k id mk v a =
@@ -106,7 +103,7 @@ before-others c others ws us h e s =
     Every-append _ ws us (Every-implies _ (λ w. Every (λ b. IsTrue (point_before w.at b.0)) others) ws (λ w q. q.1) h)
     (Every-implies (λ w. w.at ≡ c.0) (λ w. Every (λ b. IsTrue (point_before w.at b.0)) others) us (λ w q. subst (λ (p : Point). Every (λ b. IsTrue (point_before p b.0)) others) (sym q) s) e)
 
-pub rises-more : (c : Point × Lie) (others : Corrections) (ws us : List Wall) → AreBefore ws (c ∷ others) → Every (λ w. w.at ≡ c.0) us → IsReduced ws → IsReduced us → IsReduced (ws ++ us)
+rises-more : (c : Point × Lie) (others : Corrections) (ws us : List Wall) → AreBefore ws (c ∷ others) → Every (λ w. w.at ≡ c.0) us → IsReduced ws → IsReduced us → IsReduced (ws ++ us)
 rises-more c others ws us h e rw' ru = record {
   live = Every-append _ ws us rw'.live ru.live;
   rises = pairs-append _ ws us rw'.rises ru.rises

@@ -5,8 +5,12 @@ pub mod Walls
 pub mod Along
 pub mod Divided
 pub mod RayLists
+pub mod Counting
 pub mod Terms
+pub mod Runs
+pub mod Sorting
 pub mod Together
 pub mod Collecting
 pub mod Values
 pub mod NextOrder
+pub mod MergedCount

@@ -22,18 +22,17 @@ use Rattle.ray_merge.proofs.Along.{mass_along-low}
 use Rattle.ray_merge.proofs.Functions.{mass-one, mass-split}
 use Rattle.ray_merge.proofs.Values.{added-keys, added-mass}
 
-pub next-joinable : (n m : ℕ) (cs : Corrections) (rays added : List CodeWall) → m + 1 ≡ n → AreRays m rays → AreRays n added → Every (HasNewTerms n cs) (walls_of added)
-    → StayWithin n cs (walls_of rays) → AreJoinable n (walls_of rays) (walls_of added)
-next-joinable n m cs rays added next hr ha terms light = Every-from_In _ (walls_of rays) (λ r i. Every-from_In _ (walls_of added) (λ s j at dir. pair r s i j at dir))
+pub next-joinable : (n m : ℕ) (cs : Corrections) (rays added : List Wall) → m + 1 ≡ n → Every (IsWall m) rays → Every (HasNewTerms n cs) added → StayWithin n cs rays → AreJoinable n rays added
+next-joinable n m cs rays added next walls terms light = Every-from_In _ rays (λ r i. Every-from_In _ added (λ s j at dir. pair r s i j at dir))
   where
-    pair : (r s : Wall) → In r (walls_of rays) → In s (walls_of added) → r.at ≡ s.at → r.dir ≡ s.dir → IsJoinable n r s
+    pair : (r s : Wall) → In r rays → In s added → r.at ≡ s.at → r.dir ≡ s.dir → IsJoinable n r s
     pair r s i j at dir = record { distinct = Every-from_In _ (rest r.function) (λ t x. Every-from_In _ (rest s.function) (λ u y e. apart t u x y e)); light = within }
       where
         w : IsWall m r
-        w = Every-at (IsWall m) (walls_of rays) r (are-walls m rays hr.order) i
+        w = Every-at (IsWall m) rays r walls i
 
         new : HasNewTerms n cs s
-        new = Every-at (HasNewTerms n cs) (walls_of added) s terms j
+        new = Every-at (HasNewTerms n cs) added s terms j
 
         apart : (t u : Term) → In t (rest r.function) → In u (rest s.function) → t.0 ≡ u.0 → ⊥
         apart t u x y e =
@@ -47,16 +46,16 @@ next-joinable n m cs rays added next hr ha terms light = Every-from_In _ (walls_
         c = new.source.0
 
         terms-of : Sum
-        terms-of = new.source.3.0
+        terms-of = new.source.4.0
 
         mass : mass_to n (r.function ++ terms_along r.dir terms-of) ≤ largest_mass
-        mass = (Every-at (λ (c : Point × Lie). StaysWithin n c.0 c.1 (walls_of rays)) cs c light new.source.1).old terms-of r new.source.3.1 i (at ∙ new.source.2)
+        mass = (Every-at (λ (c : Point × Lie). StaysWithin n c.0 c.1 rays) cs c light new.source.1).old terms-of r new.source.4.1 i (at ∙ new.source.2)
 
         within : load n r + load n s < largest_mass
         within =
             let e = mass-split n r.function w.function.series.rises w.function.constant in
             let a = mass-append n r.function (terms_along r.dir terms-of) in
-            let l : load n s ≤ mass_along n terms-of r.dir = subst (λ (d : Exp). load n s ≤ mass_along n terms-of d) (sym dir) new.source.3.2 in
+            let l : load n s ≤ mass_along n terms-of r.dir = subst (λ (d : Exp). load n s ≤ mass_along n terms-of d) (sym dir) new.source.4.2 in
             let k = mass in
             omega (arith, e, a, l, k)
 

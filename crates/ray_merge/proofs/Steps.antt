@@ -1,6 +1,6 @@
 -- Two lists of rays in order, merged one ray at a time.
 --     Merging n a b out r s    out is made of what came before the rests r of a and s of b
-use Rattle.std.proofs.Common.{◌≡◌, ℕ, ◌+◌, ◌≤◌, refl, sym, subst, ap, ◌∙◌, Bool, true, false, cond, List, [], ◌∷◌, ◌++◌, append_assoc, append-nil, arith, inl, inr, ◌⊎◌}
+use Rattle.std.proofs.Common.{◌≡◌, ℕ, refl, sym, subst, ap, ◌∙◌, Bool, true, false, cond, List, [], ◌∷◌, ◌++◌, append_assoc, append-nil, arith, inl, inr, ◌⊎◌}
 use Rattle.std.specs.Prelude.{ℤ, pos, ◌+ℤ◌, ◌&&◌, IsTrue}
 use Rattle.std.specs.declared.cmp.Ordering.{Ordering}
 use Rattle.std.specs.declared.cmp.Ordering.TheVariants.{Less, Equal, Greater}
@@ -17,9 +17,9 @@ use Rattle.scattering.proofs.Lists.{Every-implies, Every-append, Every-left, Eve
 use Rattle.plane_theory.proofs.TotalOrder.{Place, Compared, place_before, place-trans, place-total}
 use Rattle.trunc_series.specs.Fronts.{first_after, second_after}
 use Rattle.trunc_series.proofs.Terms.{is-less, is-greater, is-equal}
-use Rattle.ray_merge.specs.Rays.{load, ray_order, IsJoined, IsFirstRay, AreLoads, AreLoadsOfBoth}
+use Rattle.ray_merge.specs.Rays.{ray_order, IsJoined, IsFirstRay}
 
-abbrev place_of : Wall → Place
+abbrev pub place_of : Wall → Place
 place_of r = (r.at, r.dir)
 
 abbrev pub Rises : List Wall → Type 0
@@ -37,7 +37,6 @@ pub record Merging (n : ℕ) (a b out r s : List Wall) : Type 0 where
   pub first : Rises (out ++ r)
   pub second : Rises (out ++ s)
   pub terms : (p : Point) (d : Exp) (k : Key) → ray_coef out p d k +ℤ (ray_coef r p d k +ℤ ray_coef s p d k) ≡ ray_coef a p d k +ℤ ray_coef b p d k
-  pub loads : (m l : Exp → ℕ) → AreLoads n m a → AreLoads n l b → AreLoads n (λ d. m d + l d) out × AreLoads n m r × AreLoads n l s
 
 pub start : (n : ℕ) (a b : List Wall) → Every IsRay a → Every IsRay b → Rises a → Rises b → Merging n a b [] a b
 start n a b ga gb ra rb = record {
@@ -46,7 +45,6 @@ start n a b ga gb ra rb = record {
   first = ra;
   second = rb;
   terms = λ p d k. ring ints_ring (ray_coef a p d k ∷ ray_coef b p d k ∷ []) (nought :+ (X :+ Y)) (X :+ Y) refl;
-  loads = λ m l h k. (tt, h, k);
 }
 
 pub swapped : (n : ℕ) (a b out r s : List Wall) → Merging n a b out r s → Merging n b a out s r
@@ -56,7 +54,6 @@ swapped n a b out r s h = record {
   first = h.second;
   second = h.first;
   terms = λ p d k. swap (ray_coef out p d k) (ray_coef r p d k) (ray_coef s p d k) (ray_coef a p d k) (ray_coef b p d k) (h.terms p d k);
-  loads = λ m l x y. let q = h.loads l m y x in (Every-implies (λ w. load n w ≤ l w.dir + m w.dir) (λ w. load n w ≤ m w.dir + l w.dir) out (λ w z. omega (arith, z)) q.0, q.2, q.1);
 }
   where
     swap : (o r s a b : ℤ) → o +ℤ (r +ℤ s) ≡ a +ℤ b → o +ℤ (s +ℤ r) ≡ b +ℤ a
@@ -83,7 +80,7 @@ across [] ys h = tt
 across (x ∷ xs) ys h = (Every-right _ xs ys h.0, across xs ys h.1)
 
 -- what is before y is before all after y
-before-more : (x y : Wall) (ys : List Wall) → IsPoint x.at → IsPoint y.at → Every IsRay ys → ray_before x y ≡ true → IsBefore y ys → IsBefore x ys
+pub before-more : (x y : Wall) (ys : List Wall) → IsPoint x.at → IsPoint y.at → Every IsRay ys → ray_before x y ≡ true → IsBefore y ys → IsBefore x ys
 before-more x y [] px py g h b = tt
 before-more x y (z ∷ ys) px py g h b = (place-trans (place_of x) (place_of y) (place_of z) px py g.0.1 h b.0, before-more x y ys px py g.1 h b.1)
 
@@ -111,7 +108,6 @@ take-first n a b out r s x h before = record {
   second = put-first out r s x x refl refl h.first h.second before;
   terms = λ p d k. ap (λ c. c +ℤ (ray_coef r p d k +ℤ ray_coef s p d k)) (ray_coef-append out (x ∷ []) p d k)
       ∙ moved (ray_coef out p d k) (cond (point_eq x.at p && exp_eq x.dir d) (coef (rest x.function) k) (pos 0)) (ray_coef r p d k) (ray_coef s p d k) (ray_coef a p d k +ℤ ray_coef b p d k) (h.terms p d k);
-  loads = λ m l y z. let q = h.loads m l y z in (Every-append _ out (x ∷ []) q.0 (let i = q.1.0 in (omega (arith, i), tt)), q.1.1, q.2);
 }
   where
     moved : (o c r s t : ℤ) → o +ℤ ((c +ℤ r) +ℤ s) ≡ t → (o +ℤ (c +ℤ pos 0)) +ℤ (r +ℤ s) ≡ t
@@ -140,14 +136,10 @@ take-both n a b out r s x y w h e f j = record {
   terms = λ p d k. ap (λ c. c +ℤ (ray_coef r p d k +ℤ ray_coef s p d k)) (ray_coef-append out (w ∷ []) p d k ∙ ap (λ c. ray_coef out p d k +ℤ (c +ℤ pos 0)) (joined-part x y w n j e f p d k))
       ∙ moved (ray_coef out p d k) (cond (point_eq x.at p && exp_eq x.dir d) (coef (rest x.function) k) (pos 0)) (cond (point_eq y.at p && exp_eq y.dir d) (coef (rest y.function) k) (pos 0))
       (ray_coef r p d k) (ray_coef s p d k) (ray_coef a p d k +ℤ ray_coef b p d k) (h.terms p d k);
-  loads = λ m l u v. let q = h.loads m l u v in (Every-append _ out (w ∷ []) q.0 ((heavier (load n w) (load n x) (load n y) (m w.dir) (m x.dir) (l w.dir) (l y.dir) q.1.0 q.2.0 j.load (ap m j.dir) (ap l (j.dir ∙ f)), tt)), q.1.1, q.2.1);
 }
   where
     without : (out : List Wall) (x : Wall) (r : List Wall) → Rises (out ++ x ∷ r) → Rises (out ++ r)
     without out x r h = pairs-append _ out r (first-part out (x ∷ r) h) (second-part out (x ∷ r) h).1 (Every-implies (λ u. IsBefore u (x ∷ r)) (λ u. IsBefore u r) out (λ u b. b.1) (across out (x ∷ r) h))
-
-    heavier : (a b c d e f g : ℕ) → b ≤ e → c ≤ g → a ≤ b + c → d ≡ e → f ≡ g → a ≤ d + f
-    heavier a b c d e f g h i j k l = omega (arith, h, i, j, k, l)
 
     moved : (o c g r s t : ℤ) → o +ℤ ((c +ℤ r) +ℤ (g +ℤ s)) ≡ t → (o +ℤ ((c +ℤ g) +ℤ pos 0)) +ℤ (r +ℤ s) ≡ t
     moved o c g r s t e = omega (arith, ints, e)
@@ -184,14 +176,12 @@ pub record Merged (n : ℕ) (a b out : List Wall) : Type 0 where
   pub rays : Every IsRay out
   pub rises : Rises out
   pub terms : (p : Point) (d : Exp) (k : Key) → ray_coef out p d k ≡ ray_coef a p d k +ℤ ray_coef b p d k
-  pub loads : AreLoadsOfBoth n a b out
 
 end-first : (n : ℕ) (a b out r : List Wall) → Merging n a b out r [] → Merged n a b (out ++ r)
 end-first n a b out r h = record {
   rays = Every-append IsRay out r h.rays h.rests.0;
   rises = h.first;
   terms = λ p d k. ray_coef-append out r p d k ∙ none (ray_coef out p d k) (ray_coef r p d k) _ (h.terms p d k);
-  loads = λ m l x y. let q = h.loads m l x y in Every-append _ out r q.0 (Every-implies (λ w. load n w ≤ m w.dir) (λ w. load n w ≤ m w.dir + l w.dir) r (λ w z. omega (arith, z)) q.1);
 }
   where
     none : (o r t : ℤ) → o +ℤ (r +ℤ pos 0) ≡ t → o +ℤ r ≡ t
@@ -202,7 +192,6 @@ merged-swapped n a b out h = record {
   rays = h.rays;
   rises = h.rises;
   terms = λ p d k. h.terms p d k ∙ ring ints_ring (ray_coef a p d k ∷ ray_coef b p d k ∷ []) (Y :+ X) (X :+ Y) refl;
-  loads = λ m l x y. Every-implies (λ w. load n w ≤ l w.dir + m w.dir) (λ w. load n w ≤ m w.dir + l w.dir) out (λ w z. omega (arith, z)) (h.loads l m y x);
 }
 
 pub ended : (n : ℕ) (a b out r s : List Wall) → (r ≡ []) ⊎ (s ≡ []) → Merging n a b out r s → Merged n a b ((out ++ r) ++ s)

@@ -1,34 +1,27 @@
 -- Rays from one point that have given terms.
 --     HasTerms n p f ws        the rays ws start at p and have the terms of f
-use Rattle.std.proofs.Common.{◌≡◌, ◌≢◌, ℕ, ◌+◌, ◌≤◌, refl, sym, subst, ap, ◌∙◌, Bool, true, false, cond, List, [], ◌∷◌, ◌++◌, take, drop, arith, inl, inr}
-use Rattle.std.specs.Prelude.{ℤ, pos, ◌+ℤ◌, ◌&&◌, IsTrue}
-use Rattle.scattering.specs.Collections.{In, Every, EveryPair}
-use Rattle.scattering.specs.Series.{Exp, Key, Term, Sum, coef, rest, key_eq, exp_eq, one, mass_to, IsMultiple}
+use Rattle.std.proofs.Common.{◌≡◌, ◌≢◌, ℕ, refl, sym, subst, ap, ◌∙◌, Bool, true, false, cond, List, [], ◌∷◌, arith}
+use Rattle.std.specs.Prelude.{ℤ, pos, ◌&&◌, IsTrue}
+use Rattle.scattering.specs.Collections.{In, Every}
+use Rattle.scattering.specs.Series.{Exp, Key, Term, Sum, coef, rest, key_eq, exp_eq, IsMultiple}
 use Rattle.scattering.specs.Plane.{Point, IsDirection, point_eq}
 use Rattle.scattering.specs.Wall.{Wall, IsWall, is_live}
 use Rattle.scattering.specs.Completion.{IsReduced}
 use Rattle.scattering.specs.Correction.{ray_coef}
-use Rattle.scattering.proofs.Lists.{Every-at, Every-from_In, Every-implies, Every-left, Every-right, In-right}
+use Rattle.scattering.proofs.Lists.{Every-at, Every-from_In, Every-implies}
 use Rattle.scattering.proofs.Keys.{key_eq-same, exp_eq-refl, point_eq-same}
 use Rattle.scattering.proofs.Coefficients.{coef-none}
-use Rattle.scattering.proofs.Pairing.{coef-append}
 use Rattle.scattering.proofs.Determined.{coef-find}
 use Rattle.plane_theory.proofs.Directions.{same-direction}
 use Rattle.correction_theory.proofs.RayCoefficients.{ray_coef-own}
 use Rattle.correction_theory.proofs.ReducedRays.{live-term, rest-own, rest-nonzero, rest-term}
 use Rattle.trunc_series.proofs.Coefficients.{add-zero}
-use Rattle.trunc_series.specs.declared.key.Key.{Key as CodeKey}
-use Rattle.trunc_series.specs.Shown.{sum_of}
-use Rattle.trunc_series.proofs.Terms.{sum_of-halves}
 use Rattle.scatter_diagram.specs.declared.wall.Wall.{Wall as CodeWall}
 use Rattle.scatter_diagram.specs.Shown.{walls_of}
 use Rattle.scatter_diagram.specs.Listed.{AreRays}
 use Rattle.scatter_diagram.proofs.Walls.{are-walls}
-use Rattle.limits.specs.Limits.{largest_mass}
-use Rattle.ray_merge.specs.Additions.{IsLightAlong, terms_along}
-use Rattle.ray_merge.specs.Rays.{load, mass_along, IsRayOf, IsJoinable, AreJoinable, AreLoads}
-use Rattle.ray_merge.proofs.Along.{mass_along-append, mass_along-halves, mass_along-all}
-use Rattle.ray_merge.proofs.Functions.{mass-one}
+use Rattle.ray_merge.specs.Rays.{mass_along, IsRayOf, AreLoads}
+use Rattle.ray_merge.proofs.Along.{mass_along-all}
 
 -- what rays have at places and positive multiples of their directions
 abbrev pub CountsTerms : Point → Sum → List Wall → Type 0
@@ -103,71 +96,7 @@ one-ray n p f w iw h = record {
         go true true e = h.terms k
         go true false e = sym (coef-none f k (Every-implies (λ (u : Term). IsMultiple w.dir u.0.exp) (λ u. key_eq u.0 k ≡ false) f (λ u m. other d k id mk e u m) h.dir))
 
-pub no-term : (n : ℕ) (p : Point) → HasTerms n p [] []
-no-term n p = record { walls = tt; reduced = record { live = tt; rises = tt }; terms = λ q d k id mk. none (point_eq p q); loads = tt }
-  where
-    none : (b : Bool) → pos 0 ≡ cond b (pos 0) (pos 0)
-    none true = refl
-    none false = refl
-
--- ---- of two lists of terms
-
--- terms of two lists in which no key stands twice
-apart : (f g : Sum) → EveryPair (λ t u. t.0 ≢ u.0) (f ++ g) → (t u : Term) → In t f → In u g → t.0 ≢ u.0
-apart [] g d t u i j = absurd i
-apart (v ∷ f) g d t u (inl e) j = subst (λ (x : Term). x.0 ≢ u.0) (sym e) (Every-at (λ (x : Term). v.0 ≢ x.0) (f ++ g) u d.0 (In-right f g u j))
-apart (v ∷ f) g d t u (inr i) j = apart f g d.1 t u i j
-
-pub joinable : (n : ℕ) (p : Point) (f g : Sum) (rs ss : List Wall) → HasTerms n p f rs → HasTerms n p g ss → EveryPair (λ t u. t.0 ≢ u.0) (f ++ g) → IsLightAlong n (f ++ g) → AreJoinable n rs ss
-joinable n p f g rs ss hr hs d m = Every-from_In _ rs (λ r i. Every-from_In _ ss (λ s j at dir. pair r s i j dir))
-  where
-    pair : (r s : Wall) → In r rs → In s ss → r.dir ≡ s.dir → IsJoinable n r s
-    pair r s i j dir = record {
-      distinct = Every-from_In _ (rest r.function) (λ t x. Every-from_In _ (rest s.function) (λ u y e.
-          let v = key-in n p f rs hr r i t x in let w = key-in n p g ss hs s j u y in apart f g d v.0 w.0 v.1 w.1 (v.2 ∙ e ∙ sym w.2)));
-      light =
-          let a = Every-at (λ w. load n w ≤ mass_along n f w.dir) rs r hr.loads i in
-          let b = subst (λ (d : Exp). load n s ≤ mass_along n g d) (sym dir) (Every-at (λ w. load n w ≤ mass_along n g w.dir) ss s hs.loads j) in
-          let c = mass_along-append n f g r.dir in
-          let e = mass-one n (terms_along r.dir (f ++ g)) in
-          let l = m r.dir (Every-at (IsWall n) rs r hr.walls i).direction in
-          omega (arith, a, b, c, e, l);
-    }
-
-pub both-terms : (p : Point) (f g : Sum) (rs ss ws : List Wall) → CountsTerms p f rs → CountsTerms p g ss → ((q : Point) (d : Exp) (k : Key) → ray_coef ws q d k ≡ ray_coef rs q d k +ℤ ray_coef ss q d k) → CountsTerms p (f ++ g) ws
-both-terms p f g rs ss ws hr hs h q d k id mk =
-    h q d k ∙ ap (λ c. c +ℤ ray_coef ss q d k) (hr q d k id mk) ∙ ap (λ c. cond (point_eq p q) (coef f k) (pos 0) +ℤ c) (hs q d k id mk)
-    ∙ sum (point_eq p q) (coef f k) (coef g k) ∙ ap (λ c. cond (point_eq p q) c (pos 0)) (sym (coef-append f g k))
-  where
-    sum : (b : Bool) (x y : ℤ) → cond b x (pos 0) +ℤ cond b y (pos 0) ≡ cond b (x +ℤ y) (pos 0)
-    sum true x y = refl
-    sum false x y = refl
-
 -- ---- the program's lists
 
 pub has-terms : (n : ℕ) (p : Point) (f : Sum) (ws : List CodeWall) → AreRays n ws → CountsTerms p f (walls_of ws) → AreLoads n (mass_along n f) (walls_of ws) → HasTerms n p f (walls_of ws)
 has-terms n p f ws r t l = record { walls = are-walls n ws r.order; reduced = r.reduced; terms = t; loads = l }
-
--- of both halves
-pub halves-each : (P : Term → Type 0) (ts : List (CodeKey × ℤ)) (i : ℕ) → Every P (sum_of ts) → Every P (sum_of (take i ts)) × Every P (sum_of (drop i ts))
-halves-each P ts i h =
-    let e : Every P (sum_of (take i ts) ++ sum_of (drop i ts)) = subst (Every P) (sum_of-halves ts i) h in
-    (Every-left P (sum_of (take i ts)) (sum_of (drop i ts)) e, Every-right P (sum_of (take i ts)) (sum_of (drop i ts)) e)
-
-halves-distinct : (f g : Sum) → EveryPair (λ t u. t.0 ≢ u.0) (f ++ g) → EveryPair (λ t u. t.0 ≢ u.0) f × EveryPair (λ t u. t.0 ≢ u.0) g
-halves-distinct [] g d = (tt, d)
-halves-distinct (t ∷ f) g d = let r = halves-distinct f g d.1 in ((Every-left _ f g d.0, r.0), r.1)
-
-pub halves-apart : (ts : List (CodeKey × ℤ)) (i : ℕ) → EveryPair (λ t u. t.0 ≢ u.0) (sum_of ts) → EveryPair (λ t u. t.0 ≢ u.0) (sum_of (take i ts)) × EveryPair (λ t u. t.0 ≢ u.0) (sum_of (drop i ts))
-halves-apart ts i h = halves-distinct (sum_of (take i ts)) (sum_of (drop i ts)) (subst (EveryPair (λ (t u : Term). t.0 ≢ u.0)) (sum_of-halves ts i) h)
-
--- what bounds the loads of both halves
-pub loads-of-halves : (n : ℕ) (ts : List (CodeKey × ℤ)) (i : ℕ) (ws : List Wall) → AreLoads n (λ d. mass_along n (sum_of (take i ts)) d + mass_along n (sum_of (drop i ts)) d) ws → AreLoads n (mass_along n (sum_of ts)) ws
-loads-of-halves n ts i ws h = Every-implies _ (λ w. load n w ≤ mass_along n (sum_of ts) w.dir) ws (λ w l. let e = mass_along-halves n ts i w.dir in omega (arith, e, l)) h
-
--- what is light together is so apart
-pub halves-light : (n : ℕ) (ts : List (CodeKey × ℤ)) (i : ℕ) → IsLightAlong n (sum_of ts) → IsLightAlong n (sum_of (take i ts)) × IsLightAlong n (sum_of (drop i ts))
-halves-light n ts i h = (λ d id. part (sum_of (take i ts)) d id (let e = mass_along-halves n ts i d in omega (arith, e)), λ d id. part (sum_of (drop i ts)) d id (let e = mass_along-halves n ts i d in omega (arith, e)))
-  where
-    part : (f : Sum) (d : Exp) → IsDirection d → mass_along n f d ≤ mass_along n (sum_of ts) d → mass_to n (one ++ terms_along d f) ≤ largest_mass
-    part f d id l = let a = mass-one n (terms_along d f) in let b = mass-one n (terms_along d (sum_of ts)) in let c = h d id in omega (arith, a, b, c, l)

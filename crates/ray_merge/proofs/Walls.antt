@@ -1,5 +1,5 @@
 -- Walls of the program that are read at a higher order, joined, or made of one term.
-use Rattle.std.proofs.Common.{◌≡◌, ◌≢◌, ℕ, ◌+◌, ◌≤◌, ◌<◌, ◌^◌, refl, sym, subst, ap, ◌∙◌, Bool, true, false, not, List, [], ◌∷◌, ◌++◌, inl, inr, arith}
+use Rattle.std.proofs.Common.{◌≡◌, ◌≢◌, ℕ, ◌≤◌, ◌<◌, ◌^◌, refl, sym, subst, ap, ◌∙◌, Bool, true, false, not, List, [], ◌∷◌, ◌++◌, inl, inr, arith}
 use Rattle.std.specs.Prelude.{ℤ, pos, ◌+ℤ◌, nat_abs, filter, length, IsTrue}
 use Rattle.scattering.specs.Collections.{Every, EveryPair}
 use Rattle.scattering.specs.Series.{Exp, Key, Term, Sum, degree, unit, one, coef, rest, key_eq, mass_to, IsSeries, IsMultiple, IsWallFunction}
@@ -24,7 +24,7 @@ use Rattle.scatter_diagram.specs.declared.wall.Wall.{Wall as CodeWall}
 use Rattle.scatter_diagram.specs.Kinds.{kind_of}
 use Rattle.scatter_diagram.specs.Proper.{IsProper, IsTame}
 use Rattle.scatter_diagram.specs.Shown.{wall_of}
-use Rattle.ray_merge.specs.Additions.{HaveExponent, IsWithOne, IsRayTerm, IsLightAlong, terms_along}
+use Rattle.ray_merge.specs.Additions.{IsWithOne, IsRayTerm, IsLightAlong, terms_along}
 use Rattle.ray_merge.specs.Rays.{IsJoinable, IsJoined, IsRayOf}
 use Rattle.scattering.proofs.DistinctKeys.{rising-distinct}
 use Rattle.scattering.proofs.Pairing.{coef-append, skip-zero}
@@ -116,7 +116,6 @@ module _ (x y : CodeWall) (n : ℕ) (lx : x.function.order ≤ n) (ly : y.functi
       at = refl;
       dir = refl;
       terms = more-terms x.function.order n (vector_of x.dir) x.function.terms (rest y.function.terms) x.proper.function lx others s h;
-      load = more-load x.function.order n (vector_of x.dir) x.function.terms (rest y.function.terms) x.proper.function lx others s h;
       live = λ v. more-live x.function.order n (vector_of x.dir) x.function.terms (rest y.function.terms) x.proper.function lx others s h j.distinct v;
     }
 
@@ -202,7 +201,3 @@ with-series s n f g (inr e) h = record { order = h.order; series = h.series; sam
 -- what is light along each direction is so along its own
 pub light-along : (n : ℕ) (d : Exp) (f : Sum) → IsDirection d → Every (λ t. IsMultiple d t.0.exp) f → IsLightAlong n f → mass_to n f < 2 ^ 127
 light-along n d f id m l = let a = l d id in let b = mass-one n (terms_along d f) in let e = mass_along-all n f d id m in omega (arith, a, b, e)
-
--- terms of one exponent
-pub multiples-of : (d e : Exp) (f : Sum) → IsMultiple d e → HaveExponent e f → Every (λ t. IsMultiple d t.0.exp) f
-multiples-of d e f m h = Every-implies (λ (t : Term). t.0.exp ≡ e) (λ t. IsMultiple d t.0.exp) f (λ t q. subst (IsMultiple d) (sym q) m) h

@@ -38,10 +38,6 @@ pub record IsRayTerm (n : ℕ) (t : Term) : Type 0 where
   pub exponent : t.0.exp ≢ origin
   pub tame : IsTameKey n t.0
 
--- all terms of f have the exponent e
-abbrev pub HaveExponent : Exp → Sum → Type 0
-HaveExponent e f = Every (λ t. t.0.exp ≡ e) f
-
 -- g is f with 1 before or behind
 abbrev pub IsWithOne : Sum → Sum → Type 0
 IsWithOne f g = (g ≡ one ++ f) ⊎ (g ≡ f ++ one)

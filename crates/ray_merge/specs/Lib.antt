@@ -1,3 +1,4 @@
 pub mod Additions
+pub mod RayTerms
 pub mod Rays
 pub mod Answer

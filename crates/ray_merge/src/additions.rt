@@ -4,7 +4,7 @@ ghost use Rattle.std.specs.Prelude.{◌≡◌, ◌≢◌, ◌≤◌, ℤ, pos, I
 ghost use Rattle.limits.specs.Limits.{largest_weight};
 ghost use Rattle.scattering.specs.Collections.{Every};
 ghost use Rattle.scattering.specs.Series.{origin};
-ghost use Rattle.scattering.specs.Correction.{IsWhole};
+ghost use Rattle.scattering.specs.Correction.{IsRatio, IsWhole};
 ghost use Rattle.trunc_series.specs.Shown.{sum_of};
 ghost use Rattle.vertex_lie.specs.Shown.{coefficient_of};
 ghost use Rattle.weight_theory.specs.Laws.{IsWholeValue};
@@ -33,6 +33,7 @@ pub(crate) fn added_terms(alloc: Global, h: &LieElement) -> Result<Vec<(Key, i12
     requires light { IsLight h.now }
     ensures added { IfOk result (λ r. AreAdded h.now (sum_of r.items)) }
     ensures nonzero { IfOk result (λ r. Every (λ t. t.1 ≢ pos 0) (sum_of r.items)) }
+    ensures ratios { IfOk result (λ r. Every (λ t. IsRatio t.1) h.now) }
 {
     let terms = h.terms();
     let mut out = Vec::with_capacity(alloc, terms.len())?;

@@ -8,5 +8,6 @@ mod additions;
 mod merge;
 mod place;
 mod ray;
+mod ray_term;
 
 pub use merge::merged;

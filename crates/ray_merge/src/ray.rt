@@ -1,13 +1,13 @@
 // Single rays: read at a higher order, joined with another, or made of one term.
 
-ghost use Rattle.std.specs.Prelude.{◌≡◌, ◌≢◌, ◌≤◌, ◌<◌, IfOk, IsTrue, filter, length, not};
+ghost use Rattle.std.specs.Prelude.{◌≡◌, ◌≢◌, ◌≤◌, ◌<◌, IfOk, filter, length, not};
 ghost use Rattle.limits.specs.Limits.{highest_order};
 ghost use Rattle.scattering.specs.Collections.{Every, EveryPair};
 ghost use Rattle.scattering.specs.Series.{IsMultiple, key_eq, origin, unit};
 ghost use Rattle.plane_geom.specs.Shown.{vector_of, point_of};
 ghost use Rattle.trunc_series.specs.Shown.{key_of, sum_of};
 ghost use Rattle.scatter_diagram.specs.Shown.{wall_of};
-ghost use Rattle.ray_merge.specs.Additions.{HaveExponent, IsTameKey, IsRayTerm, IsLightAlong, IsWithOne};
+ghost use Rattle.ray_merge.specs.Additions.{IsTameKey, IsRayTerm, IsLightAlong, IsWithOne};
 ghost use Rattle.ray_merge.specs.Rays.{IsJoinable, IsJoined, IsRayOf};
 
 use frac_128::gcd;
@@ -65,7 +65,7 @@ pub(crate) fn joined(alloc: Global, order: u32, r: &Wall, s: &Wall) -> Result<Wa
 }
 
 /// m/gcd(m), for the exponent m of the key.
-fn primitive(key: &Key) -> Direction
+pub(crate) fn primitive(key: &Key) -> Direction
     requires exponent { (key_of key.now).exp ≢ origin }
     requires tame { IsTameKey highest_order (key_of key.now) }
     ensures { IsMultiple (vector_of result) (key_of key.now).exp }
@@ -75,29 +75,21 @@ fn primitive(key: &Key) -> Direction
     Direction { a: a / g, b: b / g }
 }
 
-/// Whether each term has the exponent of the key.
-pub(crate) fn have_exponent(terms: &[(Key, i128)], key: &Key) -> bool
-    ensures { IsTrue result → HaveExponent (key_of key.now).exp (sum_of terms.now) }
-{
-    for t in terms {
-        if t.0.exp.a != key.exp.a || t.0.exp.b != key.exp.b {
-            return false;
-        }
-    }
-    true
+/// Whether multiples of the direction stand after 0 in the order of keys.
+fn leads(dir: &Direction) -> bool {
+    dir.a > 0 || (dir.a == 0 && dir.b > 0)
 }
 
-/// Whether the exponent of the key stands after 0 in the order of keys.
-fn leads(key: &Key) -> bool {
-    key.exp.a > 0 || (key.exp.a == 0 && key.exp.b > 0)
-}
-
-/// The terms, which have the exponent of the key, with 1 where it stands by the order of keys.
-fn with_one(alloc: Global, key: &Key, terms: &[(Key, i128)]) -> Result<Vec<(Key, i128)>, AllocError>
+/// The terms, which are along the direction, with 1 where it stands by the order of keys.
+fn with_one(
+    alloc: Global,
+    dir: &Direction,
+    terms: &[(Key, i128)],
+) -> Result<Vec<(Key, i128)>, AllocError>
     ensures { IfOk result (λ r. IsWithOne (sum_of terms.now) (sum_of r.items)) }
 {
     let mut out = Vec::with_capacity(alloc, terms.len() + 1)?;
-    if leads(key) {
+    if leads(dir) {
         out.push((Key::ONE, 1))?;
         out.extend_from_slice(terms)?;
     } else {
@@ -107,33 +99,30 @@ fn with_one(alloc: Global, key: &Key, terms: &[(Key, i128)]) -> Result<Vec<(Key,
     Ok(out)
 }
 
-/// The ray from the point whose function is 1 and these terms, which have the exponent of the key, along this
-/// exponent.
+/// The ray from the point along the direction whose function is 1 and these terms.
 pub(crate) fn ray_of(
     alloc: Global,
     order: u32,
     at: &Point,
-    key: &Key,
+    dir: &Direction,
     terms: &[(Key, i128)],
 ) -> Result<Wall, AllocError>
     requires some { 1 ≤ order }
     requires order { order ≤ highest_order }
-    requires key { IsTameKey order (key_of key.now) }
-    requires exponent { (key_of key.now).exp ≢ origin }
     requires any { 0 < length terms.now }
     requires each { Every (IsRayTerm order) (sum_of terms.now) }
-    requires alike { HaveExponent (key_of key.now).exp (sum_of terms.now) }
+    requires along { Every (λ t. IsMultiple (vector_of dir.now) t.0.exp) (sum_of terms.now) }
     requires distinct { EveryPair (λ t u. t.0 ≢ u.0) (sum_of terms.now) }
     requires light { IsLightAlong order (sum_of terms.now) }
     ensures wall { IfOk result (λ w. IsRayOf order (point_of at.now) (sum_of terms.now) (wall_of w)) }
+    ensures dir { IfOk result (λ w. (wall_of w).dir ≡ vector_of dir.now) }
     ensures order { IfOk result (λ w. w.function.order ≡ order) }
 {
-    let dir = primitive(key);
-    let all = with_one(alloc, key, terms)?;
+    let all = with_one(alloc, dir, terms)?;
     Ok(Wall {
         kind: WallKind::Outgoing,
         at: *at,
-        dir,
+        dir: *dir,
         function: Series::from_terms(alloc, order, all.as_slice())?,
     })
 }

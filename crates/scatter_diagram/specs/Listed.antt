@@ -1,12 +1,13 @@
 -- What lists of initial walls and of rays keep, and what contracts see of initial walls and of a diagram.
 --     AreLines n ws            lines with functions of order n
 --     AreRays n ws             outgoing rays with functions of order n, reduced
+--     AreSeenRays n rays       outgoing rays of order n, reduced
 --     SeenInitial              the number of variables and the lines
 --     SeenDiagram              the order, the lines and the rays
 use Rattle.std.specs.Prelude.{◌≡◌, ℕ, ◌≤◌, List, length}
 use Rattle.limits.specs.Limits.{highest_order, most_lines, most_variables}
 use Rattle.scattering.specs.Collections.{Every}
-use Rattle.scattering.specs.Wall.{Line, Outgoing, Wall, Diagram}
+use Rattle.scattering.specs.Wall.{Line, Outgoing, Wall, Diagram, IsWall}
 use Rattle.scattering.specs.Completion.{IsReduced, lowered}
 use Rattle.scatter_diagram.specs.declared.wall.Wall.{Wall as CodeWall}
 use Rattle.scatter_diagram.specs.Shown.{walls_of}
@@ -22,6 +23,12 @@ pub record AreRays (n : ℕ) (ws : List CodeWall) : Type 0 where
   pub order : AreOfOrder n ws
   pub outgoing : Every (λ r. r.kind ≡ Outgoing) (walls_of ws)
   pub reduced : IsReduced (walls_of ws)
+
+-- rays of a diagram of order n, as contracts see them
+pub record AreSeenRays (n : ℕ) (rays : List Wall) : Type 0 where
+  pub proper : Every (IsWall n) rays
+  pub outgoing : Every (λ r. r.kind ≡ Outgoing) rays
+  pub reduced : IsReduced rays
 
 -- what initial walls keep
 pub record IsInitialList (vars : ℕ) (ws : List CodeWall) : Type 0 where

@@ -1,12 +1,12 @@
 // Diagrams: lines and reduced outgoing rays with functions of one order.
 
-ghost use Rattle.std.specs.Prelude.{◌≡◌, ◌↔◌, ◌<◌, ◌≤◌, IsTrue, IfOk, length, slice_index_or, filter};
+ghost use Rattle.std.specs.Prelude.{◌≡◌, ◌↔◌, ◌<◌, ◌≤◌, ◌^◌, IsTrue, IfOk, length, slice_index_or, filter};
 ghost use Rattle.limits.specs.Limits.{highest_order};
 ghost use Rattle.scattering.specs.Collections.{Every};
 ghost use Rattle.scattering.specs.SupportingLine.{runs};
 ghost use Rattle.scattering.specs.Wall.{Line, Outgoing, IsWall, walls, cut_walls, is_live};
 ghost use Rattle.scatter_diagram.specs.Proper.{AreTameWalls};
-ghost use Rattle.scatter_diagram.specs.Listed.{AreLines, AreRays, AreOfOrder, seen_diagram, lowered_to};
+ghost use Rattle.scatter_diagram.specs.Listed.{AreLines, AreRays, AreOfOrder, AreSeenRays, seen_diagram, lowered_to};
 ghost use Rattle.scatter_diagram.specs.Shown.{wall_of, walls_of};
 
 use crate::Wall;
@@ -97,7 +97,9 @@ impl Diagram {
     }
 
     pub fn ray_count(&self) -> usize
-        ensures { result ≡ length self.now.diagram.rays }
+        ensures count { result ≡ length self.now.diagram.rays }
+        ensures small { result < 2 ^ 63 }
+        ensures rays { AreSeenRays self.now.order self.now.diagram.rays }
     {
         self.positions.len() - self.line_count
     }
@@ -139,18 +141,6 @@ impl Diagram {
         ensures order { result.now.function.order ≡ self.now.order }
     {
         &self.walls[self.positions[i]]
-    }
-
-    /// Copies of the rays, by start and then direction.
-    pub fn copied_rays(&self) -> Result<Vec<Wall>, AllocError>
-        ensures walls { IfOk result (λ r. walls_of r.items ≡ self.now.diagram.rays) }
-        ensures rays { IfOk result (λ r. AreRays self.now.order r.items) }
-    {
-        let mut out = Vec::with_capacity(self.alloc, self.ray_count())?;
-        for i in 0..self.ray_count() {
-            out.push(self.ray(i).copy()?)?;
-        }
-        Ok(out)
     }
 
     /// The lines cut to a lower order.

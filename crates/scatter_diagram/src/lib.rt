@@ -15,5 +15,5 @@ pub use diagram::Diagram;
 pub use initial::Initial;
 pub use lists::cut_walls;
 pub use stop::{Stop, StopCause};
-pub use supporting::compare_directions;
+pub use supporting::{compare_directions, line_direction};
 pub use wall::{Wall, WallKind, opposite};

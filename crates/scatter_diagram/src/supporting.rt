@@ -20,7 +20,7 @@ fn leads(d: &Direction) -> bool
 }
 
 /// Of d and -d the one whose first number is positive, or 0 with a positive second one.
-fn line_direction(d: &Direction) -> Direction
+pub fn line_direction(d: &Direction) -> Direction
     ensures { vector_of result ≡ line_direction (vector_of d.now) }
 {
     if leads(d) { *d } else { opposite(d) }

@@ -1,5 +1,7 @@
 -- Lines of tokens, written piece by piece.
-use Rattle.std.proofs.Common.{◌≡◌, ℕ, List, [], ◌∷◌, ◌++◌, map, take, length, refl, sym, ap, ◌∙◌, append_assoc, arith}
+use Rattle.std.proofs.Common.{◌≡◌, ℕ, ◌+◌, ◌<◌, List, [], ◌∷◌, ◌++◌, map, take, length, get_or, refl, sym, ap, ◌∙◌, append_assoc, add-one, arith}
+use Rattle.std.proofs.lemmas.List.{flat_map_more, map-append}
+use Rattle.std.proofs.Math.Seq.{take-suc}
 use Rattle.std.specs.Prelude.{ℤ, decimal, flat_map, slice_index, Result, OnOk, Ok, Err, is_ok, codes}
 use Rattle.std.specs.Bool.{if◌then◌else◌}
 use Rattle.std.specs.Fmt.{signed_decimal}
@@ -72,3 +74,12 @@ heading_written old word s1 s2 s3 s4 s5 s6 d1 d2 d x y f1 f2 e1 e2 e3 e4 e5 e6 =
 pub ends : {E : Type 0} (result : Result (Unit {0}) E) (s new piece goal : List ℕ) → new ≡ (if is_ok result then s ++ piece else s) → s ++ piece ≡ goal → OnOk result (new ≡ goal)
 ends (Ok x) s new piece goal e f = e ∙ f
 ends (Err x) s new piece goal e f = tt
+
+-- a loop's pieces so far, and that of one item more
+pub one_more : {A B : Type 0} (f : B → List ℕ) (g : A → B) (xs : List A) (i : ℕ) (d : A) (old now more : List ℕ) → i < length xs → now ≡ old ++ flat_map f (map g (take i xs)) → more ≡ now ++ f (g (get_or xs i d)) → more ≡ old ++ flat_map f (map g (take (i + 1) xs))
+one_more {A = A} f g xs i d old now more h e k =
+    k ∙ ap (λ (s : List ℕ). s ++ f (g (get_or xs i d))) e
+    ∙ flat_map_more f old (map g (take i xs)) (g (get_or xs i d))
+    ∙ ap (λ ys. old ++ flat_map f ys) (sym (map-append g (take i xs) (get_or xs i d ∷ [])))
+    ∙ ap (λ (ys : List A). old ++ flat_map f (map g ys)) (sym (take-suc xs i d h))
+    ∙ ap (λ n. old ++ flat_map f (map g (take n xs))) (sym (add-one i))

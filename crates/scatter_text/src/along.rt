@@ -15,7 +15,7 @@ use std::cmp::Ordering;
 use trunc_series::{Exp, Key, is_constant};
 
 /// The term c·t^P·z^(j·d) of the function of a wall in direction d, with P as `powers`.
-#[derive(Clone, Copy, Debug)]
+#[derive(Clone, Copy)]
 pub(crate) struct PrintedRow {
     pub j: u32,
     pub powers: [u8; 8],

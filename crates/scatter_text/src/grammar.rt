@@ -3,14 +3,14 @@ ghost use Rattle.std.specs.Prelude.{◌≡◌, MatchOption, Contains};
 ghost use Rattle.scatter_text.specs.Grammar.{word_of, slots_of, words_at, text_of_fixed, token_count, BeginsNowhere};
 
 /// A kind of text.
-#[derive(Clone, Copy, Debug, PartialEq, Eq)]
+#[derive(Clone, Copy)]
 pub enum TextForm {
     /// The initial lines of a diagram.
     InitialLines,
 }
 
 /// The word that a line begins with.
-#[derive(Clone, Copy, Debug, PartialEq, Eq)]
+#[derive(Clone, Copy)]
 pub enum Keyword {
     Scatter,
     Vars,
@@ -20,13 +20,13 @@ pub enum Keyword {
 }
 
 /// A fixed word within a line.
-#[derive(Clone, Copy, Debug, PartialEq, Eq)]
+#[derive(Clone, Copy)]
 pub enum FixedWord {
     At,
 }
 
 /// What may stand in a line after its keyword.
-#[derive(Clone, Copy, Debug, PartialEq, Eq)]
+#[derive(Clone, Copy)]
 pub enum Slot {
     Fixed(FixedWord),
     Number,
@@ -36,7 +36,7 @@ pub enum Slot {
 }
 
 /// Where a line stands in a text.
-#[derive(Clone, Copy, Debug, PartialEq, Eq)]
+#[derive(Clone, Copy)]
 pub enum Place {
     Start,
     Version,

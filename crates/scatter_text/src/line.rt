@@ -11,7 +11,7 @@ use crate::rows::Rows;
 use std::alloc::{AllocError, AllocFailed, Global};
 
 /// Why a line wasn't read.
-#[derive(Debug, Drop)]
+#[derive(Drop)]
 pub enum LineFault {
     Bad(TextKind),
     Memory,

@@ -1,8 +1,8 @@
 // Reading a text line by line, by what the rows before a line allow.
 ghost use Rattle.std.specs.Prelude.{◌≡◌, List, ℕ, ◌≤◌, [], ◌∷◌, length, IfOk};
 ghost use Rattle.limits.specs.Limits.{most_bytes};
-ghost use Rattle.scatter_text.specs.Grammar.{IsTextOf, IsTextFault, file_text, file_rows, IsBadLine, IsFaultAfter};
-ghost use Rattle.scatter_text.specs.Reading.{IfBad};
+ghost use Rattle.scatter_text.specs.Grammar.{IsTextOf, IsTextFault, file_text, file_rows, HasValues, IsBadLine, IsFaultAfter};
+ghost use Rattle.scatter_text.specs.Reading.{IfBad, IsUnvaluedLine};
 ghost use Rattle.scatter_text.specs.Stages.{rows_of, Follows, AreRead};
 ghost use Rattle.scatter_text.specs.declared.fault.TextKind.{TextKind};
 ghost use Rattle.scatter_text.specs.declared.grammar.TextForm.TheVariants.{InitialLines};
@@ -13,6 +13,7 @@ use crate::file::TextFile;
 use crate::grammar::TextForm;
 use crate::line::{LineFault, row_at};
 use crate::number::find_byte;
+use crate::row::Row;
 use crate::rows::Rows;
 use crate::stage::Stage;
 use std::alloc::Global;
@@ -65,20 +66,22 @@ fn next(alloc: Global, stage: Stage, line: &[u8]) -> Result<Stage, LineFault>
     ensures ok { IfOk result (λ more. Follows (rows_of stage) line.now (rows_of more)) }
     ensures bad { IfBad result (IsBadLine InitialLines (rows_of stage) line.now) }
 {
+    let row = allowed_row(alloc, &stage, line)?;
+    Ok(stage.with(alloc, row)?)
+}
+
+/// The row of a line that comes next, if the line is good.
+fn allowed_row(alloc: Global, stage: &Stage, line: &[u8]) -> Result<Row, LineFault>
+    ensures row { IfOk result (IsUnvaluedLine InitialLines (rows_of stage.now) line.now) }
+    ensures values { IfOk result (λ row. HasValues (rows_of stage.now) row.keyword row.values) }
+    ensures bad { IfBad result (IsBadLine InitialLines (rows_of stage.now) line.now) }
+{
     let form = TextForm::InitialLines;
-    match row_at(alloc, form, stage.place(), stage.variables(), line) {
-        Ok(row) => {
-            let allowed = stage.allows(alloc, &row)?;
-            if !allowed {
-                return Err(LineFault::Bad(TextKind::Value));
-            }
-            match stage.with(alloc, row) {
-                Ok(more) => Ok(more),
-                Err(_) => Err(LineFault::Memory),
-            }
-        }
-        Err(fault) => Err(fault),
+    let row = row_at(alloc, form, stage.place(), stage.variables(), line)?;
+    if !stage.allows(alloc, &row)? {
+        return Err(LineFault::Bad(TextKind::Value));
     }
+    Ok(row)
 }
 
 /// The file of a text whose lines are read, with what stands after the last line feed.

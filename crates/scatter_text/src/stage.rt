@@ -1,8 +1,9 @@
 // How far a text is read: the rows so far, as the file that they begin.
 ghost use Rattle.std.specs.Prelude.{◌≡◌, [], ◌∷◌, ◌++◌, IsTrue, ◌↔◌, IfOk, Contains, All, nat_abs, pos, ◌≤ℤ◌};
 ghost use Rattle.scatter_text.specs.Grammar.{place_after, variables_of, words_at, FillsSlots, HasValues, IsNewTerm, IsTermAfter, line_said};
-ghost use Rattle.scatter_text.specs.Stages.{rows_of};
+ghost use Rattle.scatter_text.specs.Stages.{head_rows, rows_of};
 ghost use Rattle.scatter_text.specs.declared.grammar.TextForm.TheVariants.{InitialLines};
+ghost use Rattle.scatter_text.specs.declared.stage.Stage.TheVariants.{Body};
 ghost use Rattle.scatter_text.specs.Values.{AreCoprime, IsTermRow};
 
 use crate::file::{LineRow, TermRow};
@@ -111,33 +112,59 @@ impl Stage {
             Stage::Version => Ok(Stage::Head {
                 vars: row.number(0),
             }),
-            Stage::Head { vars } => match row.keyword {
-                Keyword::Line => Ok(Stage::Body {
-                    vars,
-                    lines: Vec::new(alloc),
-                    last: opened(alloc, &row),
-                }),
-                _ => Ok(Stage::Whole {
-                    vars,
-                    lines: Vec::new(alloc),
-                }),
-            },
-            Stage::Body { vars, lines, last } => match row.keyword {
-                Keyword::Line => {
-                    let lines = with_line(lines, last.row)?;
-                    let last = opened(alloc, &row);
-                    Ok(Stage::Body { vars, lines, last })
-                }
-                Keyword::Term => {
-                    let last = last.with(alloc, row.term(alloc)?)?;
-                    Ok(Stage::Body { vars, lines, last })
-                }
-                _ => {
-                    let lines = with_line(lines, last.row)?;
-                    Ok(Stage::Whole { vars, lines })
-                }
-            },
+            Stage::Head { vars } => Ok(begun(alloc, vars, &row)),
+            Stage::Body { vars, lines, last } => continued(alloc, vars, lines, last, &row),
             Stage::Whole { .. } => unreachable!(),
+        }
+    }
+}
+
+/// The stage after the first row that follows the number of variables.
+fn begun(alloc: Global, vars: i64, row: &Row) -> Stage
+    requires allowed { Contains
+        (words_at InitialLines (place_after (head_rows vars))) row.now.keyword }
+    requires fills { FillsSlots (variables_of (head_rows vars)) row.now }
+    ensures { rows_of result ≡ row.now ∷ head_rows vars }
+{
+    match row.keyword {
+        Keyword::Line => Stage::Body {
+            vars,
+            lines: Vec::new(alloc),
+            last: opened(alloc, row),
+        },
+        _ => Stage::Whole {
+            vars,
+            lines: Vec::new(alloc),
+        },
+    }
+}
+
+/// The stage after a row that follows the last line so far, or a term of it.
+fn continued(
+    alloc: Global,
+    vars: i64,
+    lines: Vec<LineRow>,
+    last: OpenLine,
+    row: &Row,
+) -> Result<Stage, AllocError>
+    requires allowed { Contains
+        (words_at InitialLines (place_after (rows_of (Body vars lines last)))) row.now.keyword }
+    requires fills { FillsSlots (variables_of (rows_of (Body vars lines last))) row.now }
+    ensures { IfOk result (λ next. rows_of next ≡ row.now ∷ rows_of (Body vars lines last)) }
+{
+    match row.keyword {
+        Keyword::Line => {
+            let lines = with_line(lines, last.row)?;
+            let last = opened(alloc, row);
+            Ok(Stage::Body { vars, lines, last })
+        }
+        Keyword::Term => {
+            let last = last.with(alloc, row.term(alloc)?)?;
+            Ok(Stage::Body { vars, lines, last })
+        }
+        _ => {
+            let lines = with_line(lines, last.row)?;
+            Ok(Stage::Whole { vars, lines })
         }
     }
 }

@@ -17,10 +17,33 @@ macro_rules! x_to {
     };
 }
 
-// Of 24 over 0 to 24.
-const BINOMIALS: [i128; 25] = [
-    1, 24, 276, 2024, 10626, 42504, 134596, 346104, 735471, 1307504, 1961256, 2496144, 2704156,
-    2496144, 1961256, 1307504, 735471, 346104, 134596, 42504, 10626, 2024, 276, 24, 1,
+// (1 + t1*x)^24.
+const BINOMIALS: [(Key, i128); 25] = [
+    (x_to!(0), 1),
+    (x_to!(1), 24),
+    (x_to!(2), 276),
+    (x_to!(3), 2024),
+    (x_to!(4), 10626),
+    (x_to!(5), 42504),
+    (x_to!(6), 134596),
+    (x_to!(7), 346104),
+    (x_to!(8), 735471),
+    (x_to!(9), 1307504),
+    (x_to!(10), 1961256),
+    (x_to!(11), 2496144),
+    (x_to!(12), 2704156),
+    (x_to!(13), 2496144),
+    (x_to!(14), 1961256),
+    (x_to!(15), 1307504),
+    (x_to!(16), 735471),
+    (x_to!(17), 346104),
+    (x_to!(18), 134596),
+    (x_to!(19), 42504),
+    (x_to!(20), 10626),
+    (x_to!(21), 2024),
+    (x_to!(22), 276),
+    (x_to!(23), 24),
+    (x_to!(24), 1),
 ];
 
 fn twelfth(alloc: Global) -> Result<Series, AllocError>
@@ -50,19 +73,12 @@ fn square(alloc: Global) -> Result<Series, AllocError> {
     f.mul(&f)
 }
 
-fn are_binomial(terms: &[(Key, i128)]) -> bool {
-    let rows = terms.iter().zip(BINOMIALS.iter()).zip(0..25u8);
-    for ((t, c), k) in rows {
-        if t.0.exp.a != k as i32 || t.0.powers[0] != k || t.0.degree() != k as u32 || t.1 != *c {
-            return false;
-        }
-    }
-    terms.len() == 25
+fn square_is_binomial(alloc: Global) -> Result<bool, AllocError> {
+    Ok(square(alloc)?.terms() == BINOMIALS.as_slice())
 }
 
 #[test]
 fn products_are_binomial(rt: HostRuntime) -> Result<(), Fail> {
-    let square = square(rt.alloc())?;
-    assert!(rt; are_binomial(square.terms()));
+    assert!(rt; square_is_binomial(rt.alloc())?);
     Ok(())
 }

@@ -4,8 +4,8 @@ use sample_walls::monomials::{ONE, X, XX};
 use std::alloc::{AllocError, Global};
 use std::test::Fail;
 use trunc_series::sorted_terms::{
-    Arithmetic, absolutes, collected, level, low_row, low_terms, merged, multiplied, one_term,
-    product, row, sum, without_constant,
+    Arithmetic, absolutes, collected, level, low_terms, merged, multiplied, one_term, product, sum,
+    without_constant,
 };
 
 const TWO_TO_126: i128 = 1 << 126;
@@ -89,17 +89,23 @@ fn difference_of_squares(alloc: Global) -> Result<bool, AllocError> {
 
 // 2·t1*x times 1 - t1*x
 fn one_row(alloc: Global) -> Result<bool, AllocError> {
-    let terms = row(alloc, Arithmetic::Wrapping, &(X, 2), &[(ONE, 1), (X, -1)])?;
+    let terms = multiplied(
+        alloc,
+        Arithmetic::Wrapping,
+        2,
+        &[(X, 2)],
+        &[(ONE, 1), (X, -1)],
+    )?;
     Ok(terms.as_slice() == [(X, 2), (XX, -2)].as_slice())
 }
 
 // The same at order 1.
 fn one_low_row(alloc: Global) -> Result<bool, AllocError> {
-    let terms = low_row(
+    let terms = multiplied(
         alloc,
         Arithmetic::Wrapping,
         1,
-        &(X, 2),
+        &[(X, 2)],
         &[(ONE, 1), (X, -1)],
     )?;
     Ok(terms.as_slice() == [(X, 2)].as_slice())

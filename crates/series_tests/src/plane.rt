@@ -57,8 +57,9 @@ fn ordered() -> Result<bool, &'static str> {
     Ok(third.compare(&place(0, 1)?) == Ordering::Greater)
 }
 
-fn left_of(a: i32, b: i32) -> Result<i32, &'static str> {
-    Ok(side(&place(0, 0)?, &toward(a, b)?, &place(1, 2)?))
+// The side of (1, 2) from the line through the origin along (a, b).
+fn left_of(a: i32, b: i32, wanted: i32) -> Result<bool, &'static str> {
+    Ok(side(&place(0, 0)?, &toward(a, b)?, &place(1, 2)?) == wanted)
 }
 
 fn lies_on(y: i128) -> Result<bool, &'static str> {
@@ -71,14 +72,27 @@ fn lies_on_half(x: i128, y: i128) -> Result<bool, &'static str> {
 
 #[test]
 fn points(rt: HostRuntime) -> Result<(), Fail> {
-    assert!(rt; reduced()? && far());
+    assert!(rt; far());
+    assert!(rt; reduced()?);
     assert!(rt; ordered()?);
-    assert_eq!(rt;
-        (left_of(1, 0)?, left_of(1, 2)?, left_of(0, 1)?),
-        (1, 0, -1)
-    );
-    assert!(rt; lies_on(-2)? && !lies_on(2)?);
-    assert!(rt; lies_on_half(-5, -4)? && lies_on_half(0, 1)? && !lies_on_half(5, 6)?);
+    Ok(())
+}
+
+#[test]
+fn sides(rt: HostRuntime) -> Result<(), Fail> {
+    for (a, b, wanted) in [(1, 0, 1), (1, 2, 0), (0, 1, -1)] {
+        assert!(rt; left_of(a, b, wanted)?);
+    }
+    Ok(())
+}
+
+#[test]
+fn points_on_supports(rt: HostRuntime) -> Result<(), Fail> {
+    assert!(rt; lies_on(-2)?);
+    assert!(rt; !lies_on(2)?);
+    assert!(rt; lies_on_half(-5, -4)?);
+    assert!(rt; lies_on_half(0, 1)?);
+    assert!(rt; !lies_on_half(5, 6)?);
     Ok(())
 }
 

@@ -3,8 +3,7 @@
 use sample_walls::monomials::{ONE, X, XX, XY, Y};
 use std::alloc::{AllocError, Global};
 use std::test::Fail;
-use term_sums::TermSum;
-use trunc_series::sorted_terms::Arithmetic;
+use trunc_series::sorted_terms::{Arithmetic, LowRows, TermSum, multiply_into};
 use trunc_series::{Exp, Key};
 
 // 2^126 + 1.
@@ -52,6 +51,15 @@ fn in_order(alloc: Global) -> Result<bool, AllocError> {
     Ok(terms.as_slice() == [(X, 3), (XY, 3), (XX, -2)].as_slice())
 }
 
+// Up to order 1, (1 + x)·(1 - x) in place of y.
+fn product(alloc: Global) -> Result<bool, AllocError> {
+    let factor = LowRows::new(alloc, 1, &[(ONE, 1), (X, -1), (XX, 5)])?;
+    let mut sum = TermSum::new(alloc);
+    sum.add(Arithmetic::Wrapping, &Y, 1)?;
+    multiply_into(&mut sum, Arithmetic::Wrapping, &[(ONE, 1), (X, 1)], &factor)?;
+    Ok(sum.terms() == [(ONE, 1), (X, 0)].as_slice())
+}
+
 #[test]
 fn terms_are_added_up(rt: HostRuntime) -> Result<(), Fail> {
     let alloc = rt.alloc();
@@ -60,6 +68,7 @@ fn terms_are_added_up(rt: HostRuntime) -> Result<(), Fail> {
     assert!(rt; cleared(alloc)?);
     assert!(rt; row(alloc)?);
     assert!(rt; in_order(alloc)?);
+    assert!(rt; product(alloc)?);
     Ok(())
 }
 

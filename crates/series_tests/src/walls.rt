@@ -2,9 +2,9 @@
 
 ghost use Rattle.std.specs.Prelude.{◌≡◌, IfOk};
 
-use plane_geom::{Point, Support};
+use plane_geom::Support;
 use sample_walls::monomials::{ONE, XXYY};
-use sample_walls::{origin, place, wall};
+use sample_walls::{place, wall};
 use scatter_diagram::{Stop, Wall, WallKind, opposite};
 use std::alloc::{AllocError, Global};
 use std::test::Fail;
@@ -17,25 +17,33 @@ fn slanted(alloc: Global, kind: WallKind) -> Result<Wall, Fail>
     wall(alloc, kind, start, 1, 1, 4, &[(ONE, 1), (XXYY, 10)])
 }
 
-fn holds(alloc: Global, kind: WallKind, p: &Point) -> Result<bool, Fail> {
-    Ok(slanted(alloc, kind)?.holds(p))
+// Whether it holds (x, x).
+fn holds(alloc: Global, kind: WallKind, x: i128) -> Result<bool, Fail> {
+    let p = place(x, x)?;
+    Ok(slanted(alloc, kind)?.holds(&p))
 }
 
-fn starts(alloc: Global, kind: WallKind, p: &Point) -> Result<bool, Fail> {
-    Ok(slanted(alloc, kind)?.starts_at(p))
+fn starts(alloc: Global, kind: WallKind, x: i128) -> Result<bool, Fail> {
+    let p = place(x, x)?;
+    Ok(slanted(alloc, kind)?.starts_at(&p))
 }
 
 #[test]
-fn walls_tell_their_places(rt: HostRuntime) -> Result<(), Fail> {
+fn walls_hold_points(rt: HostRuntime) -> Result<(), Fail> {
     let alloc = rt.alloc();
-    let (start, past) = (place(1, 1)?, place(2, 2)?);
-    assert!(rt; holds(alloc, WallKind::Outgoing, &start)?);
-    assert!(rt; holds(alloc, WallKind::Outgoing, &origin())?);
-    assert!(rt; !holds(alloc, WallKind::Outgoing, &past)?);
-    assert!(rt; holds(alloc, WallKind::Line, &past)?);
-    assert!(rt; starts(alloc, WallKind::Outgoing, &start)?);
-    assert!(rt; !starts(alloc, WallKind::Outgoing, &origin())?);
-    assert!(rt; !starts(alloc, WallKind::Line, &start)?);
+    assert!(rt; holds(alloc, WallKind::Outgoing, 1)?);
+    assert!(rt; holds(alloc, WallKind::Outgoing, 0)?);
+    assert!(rt; !holds(alloc, WallKind::Outgoing, 2)?);
+    assert!(rt; holds(alloc, WallKind::Line, 2)?);
+    Ok(())
+}
+
+#[test]
+fn rays_start(rt: HostRuntime) -> Result<(), Fail> {
+    let alloc = rt.alloc();
+    assert!(rt; starts(alloc, WallKind::Outgoing, 1)?);
+    assert!(rt; !starts(alloc, WallKind::Outgoing, 0)?);
+    assert!(rt; !starts(alloc, WallKind::Line, 1)?);
     Ok(())
 }
 

@@ -69,10 +69,17 @@ const STOPS: [(StopCause, &[u8]); 3] = [
     ),
 ];
 
+fn stops(alloc: Global, e: &Diagram, cause: StopCause, text: &[u8]) -> Result<bool, AllocError> {
+    if e.order() == 0 {
+        return Ok(false);
+    }
+    prints(alloc, &e.truncate(1)?, Some((2, cause)), text)
+}
+
 fn stopped(alloc: Global, cause: StopCause, text: &[u8]) -> Result<bool, AllocError> {
     match diagram(alloc, LEVEL)? {
-        Some(e) if e.order() > 0 => prints(alloc, &e.truncate(1)?, Some((2, cause)), text),
-        _ => Ok(false),
+        Some(e) => stops(alloc, &e, cause, text),
+        None => Ok(false),
     }
 }
 

@@ -1,7 +1,5 @@
 //! Which limit a file passes first.
 
-ghost use Rattle.std.specs.Prelude.{◌≤◌, ◌^◌};
-
 use crate::files::file_of;
 use scatter_text::{LimitKind, check_limits};
 use std::alloc::{AllocError, Global};
@@ -65,12 +63,10 @@ fn with_lines(alloc: Global, count: u32) -> Result<String, AllocError> {
 }
 
 // A text with this many terms on one line, with the powers 1 and more.
-fn with_terms(alloc: Global, count: u32) -> Result<String, AllocError>
-    requires { count ≤ 2 ^ 16 }
-{
+fn with_terms(alloc: Global, count: u32) -> Result<String, AllocError> {
     let mut text = String::from_str(alloc, "scatter 1\nvars 1\nline 1 0 at 0 0\n")?;
-    for power in 1..count + 1 {
-        write!(&mut text, "term 1 1 {power}\n")?;
+    for power in 0..count {
+        write!(&mut text, "term 1 1 {}\n", u64::from(power) + 1)?;
     }
     text.push_str("end\n")?;
     Ok(text)
@@ -81,26 +77,33 @@ fn line_passes(alloc: Global, count: u32, which: Option<LimitKind>) -> Result<bo
     Ok(passes(alloc, text.as_bytes(), 2, which))
 }
 
-fn term_passes(alloc: Global, count: u32, which: Option<LimitKind>) -> Result<bool, AllocError>
-    requires { count ≤ 2 ^ 16 }
-{
+const LINE_COUNTS: [(u32, Option<LimitKind>); 2] = [(16, None), (17, Some(LimitKind::Lines))];
+
+#[test]
+fn counted_lines(rt: HostRuntime) -> Result<(), Fail> {
+    for (count, which) in &LINE_COUNTS {
+        assert!(rt; line_passes(rt.alloc(), *count, *which)?);
+    }
+    Ok(())
+}
+
+fn term_passes(alloc: Global, count: u32, which: Option<LimitKind>) -> Result<bool, AllocError> {
     let text = with_terms(alloc, count)?;
     Ok(passes(alloc, text.as_bytes(), 2, which))
 }
 
-#[test]
-fn counted(rt: HostRuntime) -> Result<(), Fail> {
-    assert!(rt; line_passes(rt.alloc(), 16, None)?);
-    assert!(rt; line_passes(rt.alloc(), 17, Some(LimitKind::Lines))?);
-    assert!(rt; term_passes(rt.alloc(), 64, None)?);
-    assert!(rt; term_passes(rt.alloc(), 65, Some(LimitKind::Terms))?);
-    Ok(())
-}
+// The last are nearly as many bytes as are read, all of them terms of one line, each compared to those before it.
+const TERM_COUNTS: [(u32, Option<LimitKind>); 3] = [
+    (64, None),
+    (65, Some(LimitKind::Terms)),
+    (65536, Some(LimitKind::Terms)),
+];
 
-// Nearly as many bytes as are read, all of them terms of one line. Each is compared to those before it.
 #[test]
-fn many_terms(rt: HostRuntime) -> Result<(), Fail> {
-    assert!(rt; term_passes(rt.alloc(), 65536, Some(LimitKind::Terms))?);
+fn counted_terms(rt: HostRuntime) -> Result<(), Fail> {
+    for (count, which) in &TERM_COUNTS {
+        assert!(rt; term_passes(rt.alloc(), *count, *which)?);
+    }
     Ok(())
 }
 

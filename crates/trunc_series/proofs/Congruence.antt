@@ -5,6 +5,7 @@ use Rattle.std.proofs.lemmas.Int.{ints}
 use lib.IntN.{*ℤ_comm, +ℤ_comm}
 use Rattle.sum_algebra.proofs.Ring.{ring, nought, unit as one_of}
 use Rattle.sum_algebra.proofs.IntegerRing.{ints_ring, ◌:+◌, ◌:*◌, X, Y, Z}
+use Rattle.scattering.proofs.Lists.{Every-filter}
 use Rattle.scattering.specs.Series.{Key, Term, Sum, degree, key_eq, key_mul, term_mul, coef, coef_at, cut, mul}
 use Rattle.scattering.proofs.Keys.{key_eq-refl}
 use Rattle.scattering.proofs.Pairing.{pairing, pairing-split, without, coef-without, length-without, coef-append, skip-zero}
@@ -14,7 +15,7 @@ use Rattle.trunc_series.specs.Reduced.{IsKeptAs}
 use Rattle.trunc_series.proofs.Kept.{keepable-zero, keepable-one, keepable-add, keepable-mul, kept-same_left, kept-same_right, kept-same_mul}
 use Rattle.trunc_series.proofs.Coefficients.{add-zero, keepable-coef}
 use Rattle.trunc_series.proofs.Merging.{Keepable, whole}
-use Rattle.trunc_series.proofs.Rows.{row_sum, Every-filter, sum-keepable, mul-keepable}
+use Rattle.trunc_series.proofs.Rows.{row_sum, sum-keepable, mul-keepable}
 
 -- ---- a product's coefficient is read of its first factor, term by term
 

@@ -7,14 +7,14 @@ use Rattle.scattering.specs.Collections.{Every}
 use Rattle.scattering.specs.Series.{Key, Sum, IsSeries, Same, degree, key_eq, coef, unit, one, rest, minus, inverse, cut, mul, pow, power, powers_to}
 use Rattle.scattering.proofs.Keys.{key_eq-same}
 use Rattle.scattering.proofs.Pairing.{coef-without, coef-minus, coef-append}
-use Rattle.scattering.proofs.Lists.{Every-append}
+use Rattle.scattering.proofs.Lists.{Every-append, Every-filter}
 use Rattle.scattering.proofs.ShiftedSums.{degree-mul}
 use Rattle.trunc_series.specs.Laws.{InverseCancels, SignedExponentsAdd}
 use Rattle.trunc_series.proofs.Congruence.{mul-comm}
 use Rattle.trunc_series.proofs.Associate.{mul-assoc}
 use Rattle.trunc_series.proofs.PowerLaws.{mul-one, mul-same_left, mul-same_right, pow-add, pow-low}
 use Rattle.trunc_series.proofs.RingLaws.{distributes-left, multiplication-distributes, multiplication-keeps}
-use Rattle.trunc_series.proofs.Rows.{row_sum, Every-filter}
+use Rattle.trunc_series.proofs.Rows.{row_sum}
 use Rattle.trunc_series.proofs.Products.{low-mul}
 
 -- ---- degrees of products

@@ -4,7 +4,7 @@ use Rattle.std.specs.Prelude.{ℤ, pos, negsuc, ◌<ℤ◌, neg_ℤ, ◌*ℤ◌,
 use Rattle.std.proofs.lemmas.Int.{ints, unsigned_abs-mul}
 use Rattle.scattering.specs.Collections.{Every, EveryPair}
 use Rattle.scattering.specs.Series.{Key, Term, Sum, IsSeries, degree, key_eq, key_mul, key_before, term_mul, coef, cut, mul, pow, power, powers_to, unit, rest, absolute, minus, inverse, geometric, mass_to}
-use Rattle.scattering.proofs.Lists.{pairs-filter, Every-append}
+use Rattle.scattering.proofs.Lists.{pairs-filter, Every-append, Every-filter}
 use Rattle.scattering.proofs.Pairing.{coef-append}
 use Rattle.scattering.proofs.Coefficients.{mass-absolute}
 use Rattle.trunc_series.specs.declared.arithmetic.Arithmetic.{Arithmetic}
@@ -14,7 +14,7 @@ use Rattle.trunc_series.proofs.Kept.{kept-same_left, kept-same_right}
 use Rattle.trunc_series.specs.Shown.{IsValid, majorant_power}
 use Rattle.trunc_series.specs.Capped.{IsMajorant}
 use Rattle.trunc_series.specs.Reduced.{IsKeptAs, GrowsSlowly}
-use Rattle.trunc_series.proofs.Rows.{row_sum, Every-filter}
+use Rattle.trunc_series.proofs.Rows.{row_sum}
 use Rattle.trunc_series.proofs.Merging.{whole}
 use Rattle.trunc_series.proofs.Coefficients.{abs-coef, keepable-coef}
 use Rattle.trunc_series.proofs.Exact.{Made, exact, own}

@@ -8,7 +8,6 @@ pub mod Exact
 pub mod Bisection
 pub mod Mass
 pub mod Rows
-pub mod Factors
 pub mod Products
 pub mod Majorants
 pub mod Congruence
@@ -22,3 +21,7 @@ pub mod InverseLaws
 pub mod BoundLaws
 pub mod MajorantLaws
 pub mod PowerTests
+pub mod TermLists
+pub mod SortedLists
+pub mod LowRows
+pub mod RowProducts

@@ -3,6 +3,7 @@ use Rattle.std.proofs.Common.{min, ◌≡◌, ℕ, ◌+◌, ◌≤◌, ◌^◌, 
 use Rattle.std.specs.Prelude.{ℤ, pos, ◌+ℤ◌, ◌≤ℤ◌, nat_abs, nat_le}
 use Rattle.std.specs.Int.{int_min}
 use Rattle.std.proofs.lemmas.Int.{ints, clamps}
+use Rattle.scattering.proofs.Lists.{Every-filter}
 use Rattle.scattering.specs.Collections.{Every}
 use Rattle.scattering.specs.Series.{Key, Sum, degree, key_eq, coef, mul, mass_to, absolute}
 use Rattle.scattering.proofs.Keys.{key_eq-same, key_eq-refl}
@@ -17,7 +18,7 @@ use Rattle.trunc_series.proofs.Coefficients.{Apart, apart-rising, coef-none_at, 
 use Rattle.std.proofs.Math.Decide.{dec_le}
 use Rattle.trunc_series.proofs.Mass.{mass-series}
 use Rattle.trunc_series.proofs.Congruence.{product-reduced}
-use Rattle.trunc_series.proofs.Rows.{Every-filter, mul-keepable}
+use Rattle.trunc_series.proofs.Rows.{mul-keepable}
 
 -- ---- a majorant is what is kept of a sum
 

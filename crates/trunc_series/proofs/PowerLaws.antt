@@ -8,7 +8,7 @@ use Rattle.scattering.specs.Series.{Key, Term, Sum, Same, SameTo, degree, key_eq
 use Rattle.scattering.proofs.Keys.{key_eq-same, unit-mul}
 use Rattle.scattering.proofs.DistinctKeys.{rising-own}
 use Rattle.scattering.proofs.Pairing.{pairing-same}
-use Rattle.scattering.proofs.Lists.{Every-append}
+use Rattle.scattering.proofs.Lists.{Every-append, Every-filter}
 use Rattle.scattering.proofs.Coefficients.{cut-low}
 use Rattle.scattering.proofs.ShiftedSums.{degree-mul}
 use Rattle.trunc_series.specs.declared.arithmetic.Arithmetic.{Arithmetic}
@@ -18,7 +18,7 @@ use Rattle.trunc_series.specs.Reduced.{IsKeptAs, IsFactor, IsNearKey, GrowsSlowl
 use Rattle.trunc_series.proofs.Kept.{kept-zero, kept-one, keepable-one}
 use Rattle.trunc_series.proofs.Coefficients.{abs-add}
 use Rattle.trunc_series.proofs.Merging.{whole}
-use Rattle.trunc_series.proofs.Rows.{row_sum, Every-filter, reduced-same, mul-keepable}
+use Rattle.trunc_series.proofs.Rows.{row_sum, reduced-same, mul-keepable}
 use Rattle.trunc_series.proofs.Products.{low-mul}
 use Rattle.trunc_series.proofs.Congruence.{weight, mul-weight, mul-comm, product-reduced}
 use Rattle.trunc_series.proofs.Associate.{mul-assoc}

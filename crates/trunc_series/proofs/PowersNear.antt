@@ -8,6 +8,7 @@ use Rattle.std.proofs.Math.Nat.{le_trans, mul_comm, zero-mul, mul-div-le, mul-le
 use Rattle.std.proofs.lemmas.Nat.{le-div}
 use Rattle.std.proofs.lemmas.Int.{ints}
 use Rattle.std.proofs.lemmas.Bool.{le-leb}
+use Rattle.scattering.proofs.Lists.{Every-filter}
 use Rattle.scattering.specs.Collections.{Every}
 use Rattle.scattering.specs.Series.{Key, Term, Sum, degree, key_eq, key_mul, coef, coef_at, cut, term_mul, mul, pow, unit}
 use Rattle.scattering.proofs.Keys.{key_eq-same, key_eq-refl}
@@ -19,7 +20,7 @@ use Rattle.trunc_series.proofs.Coefficients.{abs-add, keepable-at, keepable-coef
 use Rattle.trunc_series.proofs.Kept.{keepable-mul}
 use Rattle.trunc_series.proofs.Majorants.{majorant-keepable}
 use Rattle.trunc_series.proofs.Merging.{Keepable}
-use Rattle.trunc_series.proofs.Rows.{row_sum, sum-keepable, Every-filter, mul-keepable}
+use Rattle.trunc_series.proofs.Rows.{row_sum, sum-keepable, mul-keepable}
 use Rattle.scattering.proofs.DistinctKeys.{rising-own}
 use Rattle.scattering.proofs.Pairing.{coef-append}
 use Rattle.scattering.proofs.ShiftedSums.{degree-mul}

@@ -1,6 +1,6 @@
 -- The steps of the program's merge, over lists of its terms.
 use Rattle.std.proofs.Common.{◌≡◌, ℕ, ◌+◌, ◌<◌, ◌≤◌, refl, sym, subst, ap, ◌∙◌, Bool, true, false, cond, List, [], ◌∷◌, ◌++◌, length, get_or, take, drop, ◌-◌, add-one, drop-cons, arith, zero, suc, append_assoc, ◌⊎◌, inl, inr}
-use Rattle.std.specs.Prelude.{ℤ, pos, ◌+ℤ◌, ◌==◌, not, IsTrue}
+use Rattle.std.specs.Prelude.{ℤ, pos, ◌+ℤ◌, ◌==◌, not, IsTrue, filter}
 use Rattle.std.proofs.lemmas.List.{take-append-drop, append-nil}
 use Rattle.std.proofs.Math.Decide.{dec_le}
 use Rattle.std.specs.Ordering.{ordering_index}
@@ -95,6 +95,20 @@ merge-ended rule out a b (inr e) = rw e (rw (append-nil (out ++ a), merge-nil ru
 
 pub sum_of-halves : (a : List (CodeKey × ℤ)) (n : ℕ) → sum_of a ≡ sum_of (take n a) ++ sum_of (drop n a)
 sum_of-halves a n = ap sum_of (sym (take-append-drop n a)) ∙ sum_of-append (take n a) (drop n a)
+
+pub sum_of-where : (p : Term → Bool) (a : List (CodeKey × ℤ)) → sum_of (filter (λ t. p (term_of t)) a) ≡ filter p (sum_of a)
+sum_of-where p [] = refl
+sum_of-where p (t ∷ a) = go (p (term_of t)) (sum_of-where p a)
+  where
+    go : (b : Bool) → sum_of (filter (λ t. p (term_of t)) a) ≡ filter p (sum_of a) → sum_of (cond b (t ∷ filter (λ t. p (term_of t)) a) (filter (λ t. p (term_of t)) a)) ≡ cond b (term_of t ∷ filter p (sum_of a)) (filter p (sum_of a))
+    go true e = ap (λ r. term_of t ∷ r) e
+    go false e = e
+
+-- a list of one term
+pub alone : (a : List (CodeKey × ℤ)) → 1 ≤ length a → length a < 2 → sum_of a ≡ term_of (at a 0) ∷ []
+alone [] h k = absurd (omega arith)
+alone (t ∷ []) h k = refl
+alone (t ∷ u ∷ a) h k = absurd (omega arith)
 
 -- at most one term is a sorted list
 pub rises-short : (a : List (CodeKey × ℤ)) → length a < 2 → EveryPair (λ t u. IsTrue (key_before t.0 u.0)) (sum_of a)

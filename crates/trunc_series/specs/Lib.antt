@@ -5,3 +5,6 @@ pub mod Capped
 pub mod Worked
 pub mod Laws
 pub mod Fronts
+pub mod Sums
+pub mod Found
+pub mod LowRows

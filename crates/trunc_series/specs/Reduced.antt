@@ -1,14 +1,14 @@
 -- A sorted list of terms that stands for a sum, as the crate's own functions hand it on.
-use Rattle.std.specs.Prelude.{◌≡◌, ℕ, ◌+◌, ◌*◌, ◌<◌, ◌≤◌, ◌^◌, cond, pos, nat_abs, IsTrue, ℤ, ◌+ℤ◌, List, [], ◌∷◌, ◌++◌, map, flat_map}
+use Rattle.std.specs.Prelude.{◌≡◌, ℕ, ◌+◌, ◌*◌, ◌<◌, ◌≤◌, ◌^◌, cond, pos, nat_abs, IsTrue, ℤ, ◌+ℤ◌, List, [], ◌∷◌, ◌++◌, map}
 use Rattle.std.specs.declared.cmp.Ordering.{Ordering}
 use Rattle.std.specs.declared.cmp.Ordering.TheVariants.{Less, Equal, Greater}
 use Rattle.limits.specs.Limits.{largest_exponent}
 use Rattle.scattering.specs.Collections.{Every, EveryPair}
-use Rattle.scattering.specs.Series.{Key, Sum, IsSeries, int_eq, key_before, coef, degree, mul, pow, powers_to, inverse, term_mul}
+use Rattle.scattering.specs.Series.{Key, Sum, IsSeries, int_eq, key_before, coef, degree, mul, pow, powers_to, inverse}
 use Rattle.trunc_series.specs.declared.arithmetic.Arithmetic.{Arithmetic}
 use Rattle.trunc_series.specs.declared.key.Key.{Key as CodeKey}
 use Rattle.trunc_series.specs.declared.arithmetic.Arithmetic.TheVariants.{Wrapping, Saturating}
-use Rattle.trunc_series.specs.Shown.{key_of, term_of, sum_of}
+use Rattle.trunc_series.specs.Shown.{key_of, sum_of}
 use Rattle.trunc_series.specs.Arithmetic.{kept, IsKeepable}
 
 -- how two keys stand
@@ -42,14 +42,6 @@ pub record IsFactor (rule : Arithmetic) (f : Sum) : Type 0 where
   pub keepable : Every (λ t. IsKeepable rule t.1) f
   pub near : Every (λ t. IsNearKey t.0) f
 
--- the degrees of each pair sum to at most n
-abbrev pub PairsFit : ℕ → Sum → Sum → Type 0
-PairsFit n f g = Every (λ t. Every (λ u. degree t.0 + degree u.0 ≤ n) g) f
-
--- all pairs of terms
-abbrev pub pairs : Sum → Sum → Sum
-pairs f g = flat_map (λ t. map (term_mul t) g) f
-
 -- the absolute values of the coefficients, as they are kept
 abbrev pub absolute_sum : Sum → Sum
 absolute_sum f = map (λ t. (t.0, kept Saturating (pos (nat_abs t.1)))) f
@@ -75,12 +67,6 @@ AddsUp rule a b r =
 -- t times each term of b has a degree of at most n
 abbrev pub RowFits : ℕ → CodeKey × ℤ → Terms → Type 0
 RowFits n t b = Every (λ u. degree (key_of t.0) + degree u.0 ≤ n) (sum_of b)
-
-abbrev pub IsRow : Arithmetic → CodeKey × ℤ → Terms → Terms → Type 0
-IsRow rule t b r = (n : ℕ) → RowFits n t b → IsKeptAs rule n (sum_of r) (map (term_mul (term_of t)) (sum_of b))
-
-abbrev pub IsSumOfRows : Arithmetic → Terms → Terms → Terms → Type 0
-IsSumOfRows rule a b r = (n : ℕ) → PairsFit n (sum_of a) (sum_of b) → IsKeptAs rule n (sum_of r) (pairs (sum_of a) (sum_of b))
 
 abbrev pub IsProduct : Arithmetic → ℕ → Terms → Terms → Terms → Type 0
 IsProduct rule n a b r = IsKeptAs rule n (sum_of r) (mul n (sum_of a) (sum_of b))

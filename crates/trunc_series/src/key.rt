@@ -1,9 +1,10 @@
 // Keys: the powers of t1 to t8 and an exponent.
 
-ghost use Rattle.std.specs.Prelude.{◌≡◌, ◌≤◌, ◌<◌, ◌+◌};
-ghost use Rattle.scattering.specs.Series.{degree, key_eq, key_mul, unit};
-ghost use Rattle.trunc_series.specs.Shown.{key_of};
+ghost use Rattle.std.specs.Prelude.{◌≡◌, ◌≤◌, ◌<◌, ◌+◌, IsTrue};
+ghost use Rattle.scattering.specs.Series.{degree, key_eq, key_mul, powers_add, unit};
+ghost use Rattle.trunc_series.specs.Shown.{key_of, powers_of};
 ghost use Rattle.trunc_series.specs.Reduced.{key_order, IsNearKey};
+ghost use Rattle.trunc_series.specs.Found.{PowersFit};
 
 use std::cmp::Ordering;
 
@@ -53,29 +54,50 @@ pub fn is_constant(k: &Key) -> bool
     k.exp.a == 0 && k.exp.b == 0 && k.degree() == 0
 }
 
+/// Whether two lists of powers are the same.
+#[inline(always)]
+fn same_powers(p: [u8; 8], q: [u8; 8]) -> bool
+    ensures { IsTrue result → p ≡ q }
+{
+    u64::from_le_bytes(p) == u64::from_le_bytes(q)
+}
+
+/// Whether two keys are the same, all eight powers compared as one number.
+#[inline(always)]
+pub fn same(k: &Key, l: &Key) -> bool
+    ensures { IsTrue result → k.now ≡ l.now }
+{
+    if k.exp.a != l.exp.a {
+        return false;
+    }
+    if k.exp.b != l.exp.b {
+        return false;
+    }
+    same_powers(k.powers, l.powers)
+}
+
+/// The sums of the powers, all eight added as one number.
+#[inline(always)]
+fn powers_sum(p: [u8; 8], q: [u8; 8]) -> [u8; 8]
+    requires { PowersFit p q }
+    ensures { powers_of result ≡ powers_add (powers_of p) (powers_of q) }
+{
+    (u64::from_le_bytes(p) + u64::from_le_bytes(q)).to_le_bytes()
+}
+
 /// The product of two monomials.
+#[inline(always)]
 pub fn times(k: &Key, l: &Key) -> Key
     requires degrees { degree (key_of k.now) + degree (key_of l.now) < 256 }
     requires left { IsNearKey (key_of k.now) }
     requires right { IsNearKey (key_of l.now) }
     ensures { key_of result ≡ key_mul (key_of k.now) (key_of l.now) }
 {
-    let p = k.powers;
-    let q = l.powers;
     Key {
         exp: Exp {
             a: k.exp.a + l.exp.a,
             b: k.exp.b + l.exp.b,
         },
-        powers: [
-            p[0] + q[0],
-            p[1] + q[1],
-            p[2] + q[2],
-            p[3] + q[3],
-            p[4] + q[4],
-            p[5] + q[5],
-            p[6] + q[6],
-            p[7] + q[7],
-        ],
+        powers: powers_sum(k.powers, l.powers),
     }
 }

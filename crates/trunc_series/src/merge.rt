@@ -1,11 +1,11 @@
-// Sorted lists of terms made from lists of terms: like terms added, none with coefficient 0.
+// Sorted lists of terms, merged, tested and told apart: no coefficient is 0 and no key stands twice.
 
-ghost use Rattle.std.specs.Prelude.{◌++◌, IfOk, OnOk, IsTrue, filter, nat_le, ◌≡◌, ◌↔◌};
+ghost use Rattle.std.specs.Prelude.{◌++◌, IfOk, OnOk, IsTrue, filter, nat_le, ◌≡◌, ◌==◌, ◌↔◌};
 ghost use Rattle.scattering.specs.Collections.{Every, EveryPair};
 ghost use Rattle.scattering.specs.Series.{key_before, degree};
-ghost use Rattle.trunc_series.specs.Shown.{key_of, term_of, sum_of, IsTerm};
+ghost use Rattle.trunc_series.specs.Shown.{key_of, term_of, sum_of};
 ghost use Rattle.trunc_series.specs.Arithmetic.{IsKeepable};
-ghost use Rattle.trunc_series.specs.Reduced.{AddsUp, AreCollected, absolute_sum, first_terms, key_order, unless_zero};
+ghost use Rattle.trunc_series.specs.Reduced.{AddsUp, absolute_sum, first_terms, key_order, unless_zero};
 
 use crate::Key;
 use crate::arithmetic::{Arithmetic, absolute, sum};
@@ -15,7 +15,7 @@ use std::alloc::{AllocError, Global};
 use std::cmp::Ordering;
 
 /// Appends a term, unless its coefficient is 0.
-pub fn push_nonzero(out: &mut Vec<(Key, i128)>, key: Key, c: i128) -> Result<(), AllocError>
+fn push_nonzero(out: &mut Vec<(Key, i128)>, key: Key, c: i128) -> Result<(), AllocError>
     ensures { OnOk result (out.new.items ≡ out.old.items ++ unless_zero (key, c)) }
 {
     if c != 0 {
@@ -68,29 +68,6 @@ pub fn merged(
     Ok(out)
 }
 
-/// Terms in any order as a sorted list, those of one key added modulo 2^128.
-pub fn collected(
-    alloc: Global,
-    order: u32,
-    terms: &[(Key, i128)],
-) -> Result<Vec<(Key, i128)>, AllocError>
-    requires { Every (IsTerm order) (sum_of terms.now) }
-    ensures { IfOk result (λ r. AreCollected order terms.now r.items) }
-{
-    if terms.len() < 2 {
-        return Vec::from_slice(alloc, terms);
-    }
-    let (left, right) = terms.split_at(terms.len() / 2);
-    let left = collected(alloc, order, left)?;
-    let right = collected(alloc, order, right)?;
-    merged(
-        alloc,
-        Arithmetic::Wrapping,
-        left.as_slice(),
-        right.as_slice(),
-    )
-}
-
 /// Whether the keys rise.
 pub fn rises(terms: &[(Key, i128)]) -> bool
     ensures { IsTrue result → EveryPair (λ t u. IsTrue (key_before t.0 u.0)) (sum_of terms.now) }
@@ -113,6 +90,14 @@ pub fn low_terms(
 {
     let low = terms.iter().filter(|t| t.0.degree() <= order);
     low.copied().collect(alloc)
+}
+
+/// The terms of one degree.
+pub fn level(alloc: Global, d: u32, terms: &[(Key, i128)]) -> Result<Vec<(Key, i128)>, AllocError>
+    ensures { IfOk result (λ r. r.items ≡ filter (λ t. degree (key_of t.0) == d) terms.now) }
+{
+    let level = terms.iter().filter(|t| t.0.degree() == d);
+    level.copied().collect(alloc)
 }
 
 /// The terms with the absolute values of their coefficients, as they are kept.

@@ -8,9 +8,10 @@ ghost use Rattle.trunc_series.specs.Shown.{key_of, sum_of, IsTerm, IsSeriesOf, I
 
 use crate::arithmetic::Arithmetic;
 use crate::key::{Key, compare};
-use crate::merge::{collected, low_terms, merged, rises, same_terms};
+use crate::merge::{low_terms, merged, rises, same_terms};
 use crate::power::{inverse_powered, powered};
 use crate::product::multiplied;
+use crate::sorting::collected;
 use std::alloc::{AllocError, Global};
 use std::cmp::Ordering;
 use std::marker::Model;
@@ -111,8 +112,10 @@ impl Series {
         }
     }
 
+    /// The order: no term has a higher degree.
     pub fn order(&self) -> u32
-        ensures { result ≡ self.now.order }
+        ensures value { result ≡ self.now.order }
+        ensures bounded { result ≤ highest_order }
     {
         self.order
     }

@@ -2,12 +2,16 @@
 //!
 //! Keys rise, no coefficient is 0, and coefficients are kept by a rule: modulo 2^128, where a bound on the
 //! true coefficients picks the one that is meant, or as the lesser of their value and 2^126 + 1, where
-//! none is below 0. `IsReduced` in `specs/` says what sum a list stands for. No call has to bound what it
+//! none is below 0. `IsKeptAs` in `specs/` says what sum a list stands for. No call has to bound what it
 //! makes on the way: `Series::from_sorted` and `Majorant::from_sorted` take a list back into a series.
-//! `Rests` goes through two lists of any kind that are merged.
+//! `TermSum` is for a sum that grows by many terms, and is sorted once in the end. `multiply_into` makes it a
+//! product, of which `LowRows` has the second factor.
 
 pub use crate::arithmetic::{Arithmetic, product, sum};
-pub use crate::merge::{absolutes, collected, low_terms, merged};
+pub use crate::key::same;
+pub use crate::low_rows::LowRows;
+pub use crate::merge::{absolutes, level, low_terms, merged};
 pub use crate::power::{one_term, without_constant};
-pub use crate::product::{level, low_row, multiplied, row};
-pub use crate::rests::Rests;
+pub use crate::product::{multiplied, multiply_into};
+pub use crate::sorting::collected;
+pub use crate::term_sum::TermSum;

@@ -14,8 +14,8 @@ use Rattle.trunc_series.specs.declared.key.Key.{Key as CodeKey}
 use Rattle.trunc_series.specs.Arithmetic.{kept, IsKeepable}
 use Rattle.trunc_series.specs.Shown.{key_of, term_of}
 use Rattle.trunc_series.proofs.Kept.{keepable-mul, keepable-kept, kept-mul_left}
-use Rattle.term_sums.specs.Sums.{AddsRow, row_sum}
-use Rattle.term_sums.proofs.TermLists.{keepable-values}
+use Rattle.trunc_series.specs.Sums.{AddsRow, row_sum}
+use Rattle.trunc_series.proofs.TermLists.{keepable-values}
 use Rattle.degree_theory.specs.Parts.{scaled}
 use Rattle.degree_theory.proofs.PartLaws.{part-is-read}
 use Rattle.power_tables.specs.Parts.{multiplier}

@@ -17,8 +17,8 @@ use Rattle.trunc_series.specs.Arithmetic.{IsKeepable}
 use Rattle.trunc_series.specs.Shown.{key_of, term_of, sum_of}
 use Rattle.trunc_series.specs.Reduced.{Terms}
 use Rattle.trunc_series.proofs.Terms.{at, no_term, sum_of-append}
-use Rattle.term_sums.specs.Sums.{AreKeptValues, AddsRow, row_sum}
-use Rattle.term_sums.proofs.TermLists.{keepable-values, stands-every}
+use Rattle.trunc_series.specs.Sums.{AreKeptValues, AddsRow, row_sum}
+use Rattle.trunc_series.proofs.TermLists.{keepable-values, stands-every}
 use Rattle.degree_theory.specs.Parts.{substituted, partial_convolution}
 use Rattle.power_tables.specs.Parts.{multiplier}
 use Rattle.power_tables.specs.Tables.{SeenTable, IsTableOf, ArePowerValues, TableGrowsBy, keys_at, column_sum}

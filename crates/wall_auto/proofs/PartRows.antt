@@ -11,8 +11,8 @@ use Rattle.trunc_series.specs.declared.key.Key.{Key as CodeKey}
 use Rattle.trunc_series.specs.Arithmetic.{IsKeepable}
 use Rattle.trunc_series.specs.Reduced.{IsNearKey}
 use Rattle.trunc_series.specs.Shown.{key_of, term_of, sum_of, HasNearTerms}
-use Rattle.term_sums.specs.Sums.{AreKeptValues, AddsRow, CanMultiply}
-use Rattle.term_sums.proofs.TermLists.{keepable-values}
+use Rattle.trunc_series.specs.Sums.{AreKeptValues, AddsRow, CanMultiply}
+use Rattle.trunc_series.proofs.TermLists.{keepable-values}
 use Rattle.power_tables.specs.Tables.{SeenTable, IsTableOf, keys_at, column_sum}
 use Rattle.wall_auto.specs.ByDegree.{part, AreKept}
 

@@ -7,18 +7,18 @@ use Rattle.scattering.specs.Collections.{Every}
 use Rattle.scattering.specs.Series.{Key, Term, Sum, degree, key_eq, key_mul, coef, term_mul, cut, mul, geometric}
 use Rattle.scattering.specs.ThetaProduct.{of_degree}
 use Rattle.scattering.proofs.Keys.{key_eq-same}
-use Rattle.scattering.proofs.Lists.{Every-append, Every-implies}
+use Rattle.scattering.proofs.Lists.{Every-append, Every-implies, Every-filter}
 use Rattle.scattering.proofs.Pairing.{coef-append}
 use Rattle.scattering.proofs.Coefficients.{coef-none, coef-cut}
 use Rattle.trunc_series.specs.declared.arithmetic.Arithmetic.{Arithmetic}
 use Rattle.trunc_series.specs.declared.arithmetic.Arithmetic.TheVariants.{Wrapping, Saturating}
 use Rattle.trunc_series.specs.Arithmetic.{kept, IsKeepable}
 use Rattle.trunc_series.proofs.Coefficients.{add-zero}
-use Rattle.trunc_series.proofs.Rows.{sum-keepable, Every-filter}
+use Rattle.trunc_series.proofs.Rows.{sum-keepable}
 use Rattle.weight_theory.proofs.Crossings.{geometric-nonnegative}
 use Rattle.weight_theory.proofs.Bounds.{pow-nonnegative}
-use Rattle.term_sums.specs.Sums.{AreKeptValues}
-use Rattle.term_sums.proofs.TermLists.{keepable-values}
+use Rattle.trunc_series.specs.Sums.{AreKeptValues}
+use Rattle.trunc_series.proofs.TermLists.{keepable-values}
 use Rattle.degree_theory.specs.Parts.{partial_convolution}
 use Rattle.degree_theory.specs.Parts as parts_of
 use Rattle.degree_theory.proofs.PartLaws.{part-is-read}

@@ -7,7 +7,7 @@ use native.Mathlib.Decide.{dec_le}
 use Rattle.scattering.specs.Collections.{Every}
 use Rattle.scattering.specs.Series.{Key, Term, Sum, degree, coef, cut, mass_to}
 use Rattle.scattering.specs.ThetaProduct.{of_degree}
-use Rattle.scattering.proofs.Lists.{Every-append, Every-implies, Every-left, Every-right}
+use Rattle.scattering.proofs.Lists.{Every-append, Every-implies, Every-left, Every-right, Every-filter}
 use Rattle.scattering.proofs.Pairing.{coef-append, skip-zero}
 use Rattle.scattering.proofs.Coefficients.{coef-cut, coef-above, low-cut}
 use Rattle.trunc_series.specs.declared.arithmetic.Arithmetic.{Arithmetic}
@@ -18,11 +18,10 @@ use Rattle.trunc_series.specs.Shown.{sum_of}
 use Rattle.trunc_series.specs.Reduced.{Terms, IsKeptAs, AddsUp}
 use Rattle.trunc_series.proofs.Terms.{at, sum_of-drop}
 use Rattle.trunc_series.proofs.Coefficients.{add-zero}
-use Rattle.trunc_series.proofs.Rows.{Every-filter}
 use Rattle.trunc_series.proofs.Merging.{whole}
-use Rattle.term_sums.specs.Sums.{IsSortedFor}
-use Rattle.term_sums.proofs.TermLists.{keepable-values}
-use Rattle.term_sums.proofs.SortedLists.{none-sorted as nothing-sorted}
+use Rattle.trunc_series.specs.Sums.{IsSortedFor}
+use Rattle.trunc_series.proofs.TermLists.{keepable-values}
+use Rattle.trunc_series.proofs.SortedLists.{none-sorted as nothing-sorted}
 use Rattle.wall_auto.specs.ByDegree.{part, StandsByDegree, IsSortedPart, IsSortedWhole, IsMass}
 use Rattle.wall_auto.specs.Gains.{size, sizes}
 use Rattle.power_tables.proofs.Alike.{Alike, alike-reduced}

@@ -11,7 +11,7 @@ use Rattle.scattering.proofs.Pairing.{coef-append}
 use Rattle.trunc_series.specs.declared.arithmetic.Arithmetic.{Arithmetic}
 use Rattle.trunc_series.specs.Arithmetic.{IsKeepable}
 use Rattle.trunc_series.specs.Shown.{HasNearTerms}
-use Rattle.term_sums.specs.Sums.{AreKeptValues}
+use Rattle.trunc_series.specs.Sums.{AreKeptValues}
 use Rattle.degree_theory.specs.Parts.{substituted, partial_convolution}
 use Rattle.power_tables.specs.Tables.{SeenTable}
 use Rattle.wall_auto.specs.ByDegree.{part, KeyGrowsBy, AreNear, AreKept, CrossesWithin}

@@ -2,6 +2,7 @@
 use Rattle.std.proofs.Common.{◌≡◌, ℕ, ◌+◌, refl, sym, ap, ◌∙◌, [], ◌∷◌, ◌++◌, length, arith}
 use Rattle.std.specs.Prelude.{ℤ, pos, ◌+ℤ◌, ◌*ℤ◌, neg_ℤ, flat_map, nat_le}
 use Rattle.std.proofs.lemmas.Int.{ints}
+use Rattle.scattering.proofs.Lists.{Every-filter}
 use Rattle.scattering.specs.Series.{Key, Sum, Same, degree, coef, cut, mul, minus}
 use Rattle.scattering.proofs.Pairing.{pairing, pairing-zero, pairing-append, pairing-minus, coef-append, coef-minus}
 use Rattle.trunc_series.specs.declared.arithmetic.Arithmetic.{Arithmetic}
@@ -10,7 +11,7 @@ use Rattle.trunc_series.proofs.Congruence.{weight, mul-weight, pairing-kept}
 use Rattle.trunc_series.proofs.Coefficients.{keepable-coef}
 use Rattle.trunc_series.proofs.Kept.{keepable-one}
 use Rattle.trunc_series.proofs.Merging.{Keepable}
-use Rattle.trunc_series.proofs.Rows.{row_sum, sum-keepable, Every-filter}
+use Rattle.trunc_series.proofs.Rows.{row_sum, sum-keepable}
 
 -- each key replaced by its product with a sum of its own
 abbrev pub substituted : ℕ → (Key → Sum) → Sum → Sum

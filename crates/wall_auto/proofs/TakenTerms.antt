@@ -16,8 +16,8 @@ use Rattle.trunc_series.specs.Reduced.{Terms}
 use Rattle.trunc_series.proofs.Terms.{at, no_term, sum_of-append}
 use Rattle.trunc_series.proofs.Coefficients.{keepable-at, keepable-coef}
 use Rattle.trunc_series.proofs.Kept.{kept-same_right}
-use Rattle.term_sums.specs.Sums.{StandsFor}
-use Rattle.term_sums.proofs.TermLists.{keepable-values, stands-every}
+use Rattle.trunc_series.specs.Sums.{StandsFor}
+use Rattle.trunc_series.proofs.TermLists.{keepable-values, stands-every}
 use Rattle.power_tables.specs.Parts.{IsPartOf}
 use Rattle.wall_auto.specs.ByDegree.{part, KeyGrowsBy, AreKept, TakesTerms, TakesWithin, StartsWithin}
 use Rattle.wall_auto.specs.Gains.{TakesParts}

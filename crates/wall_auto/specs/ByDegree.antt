@@ -15,7 +15,7 @@ use Rattle.trunc_series.specs.declared.arithmetic.Arithmetic.TheVariants.{Wrappi
 use Rattle.trunc_series.specs.declared.key.Key.{Key as CodeKey}
 use Rattle.trunc_series.specs.Shown.{sum_of}
 use Rattle.trunc_series.specs.Reduced.{IsKeptAs}
-use Rattle.term_sums.specs.Sums.{AreKeptValues}
+use Rattle.trunc_series.specs.Sums.{AreKeptValues}
 use Rattle.power_tables.specs.Parts.{IsPartOf}
 use Rattle.power_tables.specs.Tables.{SeenTable, IsTableOf, TableGrowsBy}
 

@@ -1,20 +1,25 @@
 -- What parts gain where a wall is crossed, part by part and term by term.
 --     factor_at rule f d s i x    the part of degree i of the power by which a crossing multiplies the key x
 --     Keeps rule p x              the terms p are kept as the sum x is
+--     FitsBelow t x ps            the term x may be crossed and added to the parts ps
+--     row_numbers t vs place      the numbers of a row, by degree
 --     GetsRows, GainsTerm ..      what a row, a term, the terms of a degree, and all terms add
 -- In a list of parts above a degree, the first is that of the next degree.
-use Rattle.std.specs.Prelude.{◌≡◌, ℕ, suc, ◌+◌, ◌<◌, ◌≤◌, List, [], ◌∷◌, ◌++◌, map, length, nat_abs, ℤ, ◌*ℤ◌}
+use Rattle.std.specs.Prelude.{◌≡◌, ℕ, suc, Option, Some, None, ◌+◌, ◌<◌, ◌≤◌, List, [], ◌∷◌, ◌++◌, map, length, nat_abs, ℤ, ◌*ℤ◌}
 use Rattle.scattering.specs.Collections.{Every}
-use Rattle.scattering.specs.Series.{Exp, Key, Term, Sum, coef, det, term_mul}
+use Rattle.limits.specs.Limits.{highest_order}
+use Rattle.scattering.specs.Series.{Exp, Key, Term, Sum, coef, degree, det, term_mul}
 use Rattle.scattering.specs.ThetaProduct.{of_degree}
 use Rattle.trunc_series.specs.declared.arithmetic.Arithmetic.{Arithmetic}
 use Rattle.trunc_series.specs.declared.key.Key.{Key as CodeKey}
 use Rattle.trunc_series.specs.Arithmetic.{kept, IsKeepable}
-use Rattle.term_sums.specs.Sums.{AreKeptValues, AddsRow}
+use Rattle.trunc_series.specs.Shown.{key_of, term_of, HasNearTerms}
+use Rattle.trunc_series.specs.Sums.{AreKeptValues, AddsRow}
 use Rattle.degree_theory.specs.Parts.{substituted, convolution}
 use Rattle.power_tables.specs.Parts.{IsPartOf, multiplier}
-use Rattle.power_tables.specs.Tables.{SeenTable, IsTableOf, TableGrowsBy, keys_at}
-use Rattle.wall_auto.specs.ByDegree.{part, KeyGrowsBy}
+use Rattle.power_tables.specs.Tables.{SeenTable, IsTableOf, TableGrowsBy, keys_at, numbers_at, column_sum}
+use Rattle.power_tables.specs.Values.{SeenValues, values_in}
+use Rattle.wall_auto.specs.ByDegree.{part, AreKept, IsTable, KeyGrowsBy}
 
 abbrev pub factor_at : Arithmetic → Sum → Exp → ℤ → ℕ → Key → Sum
 factor_at rule f d s i x = of_degree i (multiplier rule i f (s *ℤ det d x.exp))
@@ -23,6 +28,29 @@ pub record Keeps (rule : Arithmetic) (p x : Sum) : Type 0 where
   pub values : AreKeptValues rule p
   pub keepable : Every (λ t. IsKeepable rule t.1) x
   pub same : (k : Key) → kept rule (coef p k) ≡ kept rule (coef x k)
+
+-- a number for each key of degree i
+pub record AreNumbersAt (t : SeenTable) (i : ℕ) (numbers : List ℤ) : Type 0 where
+  pub lengths : length numbers ≡ length (keys_at t i)
+  pub values : AreKeptValues t.rule (column_sum (keys_at t i) numbers)
+
+-- a term whose products with those of the table have degrees within the limit
+pub record FitsBelow (t : SeenTable) (x : CodeKey × ℤ) (above : List Sum) : Type 0 where
+  pub table : IsTable t
+  pub order : length above ≤ t.order
+  pub near : HasNearTerms (term_of x ∷ [])
+  pub degree : degree (key_of x.0) + length above ≤ highest_order
+  pub keepable : IsKeepable t.rule x.1
+  pub kept : AreKept t.rule above
+
+-- the numbers of a row: those of u, or those of the power whose values are kept at a place
+abbrev pub row_numbers : SeenTable → List SeenValues → Option ℕ → ℕ → List ℤ
+row_numbers t vs None = numbers_at t
+row_numbers t vs (Some place) = values_in vs t place
+
+-- numbers for the keys of each degree to n
+abbrev pub AreNumbersTo : SeenTable → ℕ → (ℕ → List ℤ) → Type 0
+AreNumbersTo t n numbers = (i : ℕ) → t.least ≤ i → i ≤ n → AreNumbersAt t i (numbers i)
 
 -- each part whose degree the table has gets its keys of that degree, with the values of that degree, times x
 abbrev pub GetsRows : SeenTable → (ℕ → List ℤ) → CodeKey × ℤ → List Sum → List Sum → Type 0

@@ -7,25 +7,25 @@ ghost use Rattle.scattering.specs.Series.{degree};
 ghost use Rattle.plane_geom.specs.Shown.{vector_of};
 ghost use Rattle.trunc_series.specs.Shown.{exp_of, key_of, term_of, sum_of, HasNearTerms};
 ghost use Rattle.trunc_series.specs.Arithmetic.{IsKeepable};
-ghost use Rattle.term_sums.specs.Sums.{AreKeptValues};
-ghost use Rattle.power_tables.specs.Tables.{IsLinear, first_factor, numbers_at};
-ghost use Rattle.power_tables.specs.Values.{AreOf, AreReached, values_in};
+ghost use Rattle.trunc_series.specs.Sums.{AreKeptValues};
+ghost use Rattle.power_tables.specs.Tables.{first_factor};
+ghost use Rattle.power_tables.specs.Values.{AreOf};
 ghost use Rattle.wall_auto.specs.Sign.{sign};
 ghost use Rattle.wall_auto.specs.ByDegree.{part, AreNear, AreKept, IsTable, CrossesParts, CrossesWithin, StartsAt, StartsWithin, TakesTerms, TakesWithin, IsSortedPart, IsSortedWhole, IsMass};
-ghost use Rattle.wall_auto.specs.Gains.{GetsRows, LowPartsStay, GainsTerm, GainsTerms, KeepsGrowth, TakesParts, size};
+ghost use Rattle.wall_auto.specs.Gains.{FitsBelow, AreNumbersTo, row_numbers, GetsRows, LowPartsStay, GainsTerm, GainsTerms, KeepsGrowth, TakesParts, size};
 
 use crate::Side;
 use crate::side::exponent;
+use limits::LARGEST_WEIGHT;
 use plane_geom::Direction;
 use power_tables::{PowerTable, PowerValues};
 use std::alloc::{AllocError, Global};
 use std::marker::Model;
-use term_sums::TermSum;
-use trunc_series::sorted_terms::{Arithmetic, merged, product};
+use trunc_series::sorted_terms::{Arithmetic, TermSum, merged, product};
 use trunc_series::{Exp, Key};
 
 /// 2^126 + 1: a mass above 2^126 is kept as this.
-const LIMIT: u128 = (1 << 126) + 1;
+const LIMIT: u128 = LARGEST_WEIGHT + 1;
 
 /// A sum to an order as its parts: that of each degree is a sum under construction.
 #[derive(Drop)]
@@ -209,12 +209,7 @@ fn cross_term(
     table: &PowerTable,
     values: &mut PowerValues,
 ) -> Result<(), AllocError>
-    requires table { IsTable table.now }
-    requires order { length above.old ≤ table.now.order }
-    requires near { HasNearTerms (term_of t.now ∷ []) }
-    requires degree { degree (key_of t.now.0) + length above.old ≤ highest_order }
-    requires keepable { IsKeepable table.now.rule t.now.1 }
-    requires kept { AreKept table.now.rule above.old }
+    requires fits { FitsBelow table.now t.now above.old }
     requires values { AreOf table.now values.old }
     ensures order { length above.new ≡ length above.old }
     ensures low { OnOk result (LowPartsStay table.now above.old above.new) }
@@ -229,10 +224,10 @@ fn cross_term(
     }
     if table.is_linear() {
         let c = product(table.rule(), &factor_of(table.rule(), n), &c);
-        return add_multiples(above, &(t.0, c), table);
+        return add_rows(above, &(t.0, c), table, values, None);
     }
     let place = values.reach(table, n, above.len() as u32)?;
-    add_rows(above, t, table, values, n, place)
+    add_rows(above, t, table, values, Some(place))
 }
 
 /// What multiplies the numbers of a table without higher powers, for the exponent `n`.
@@ -245,57 +240,41 @@ fn factor_of(rule: Arithmetic, n: i64) -> i128
     }
 }
 
-/// Adds the term times the numbers of a table without higher powers.
-fn add_multiples(
-    above: &mut [TermSum],
-    t: &(Key, i128),
-    table: &PowerTable,
-) -> Result<(), AllocError>
-    requires table { IsTable table.now }
-    requires linear { IsLinear table.now }
-    requires order { length above.old ≤ table.now.order }
-    requires near { HasNearTerms (term_of t.now ∷ []) }
-    requires degree { degree (key_of t.now.0) + length above.old ≤ highest_order }
-    requires keepable { IsKeepable table.now.rule t.now.1 }
-    requires kept { AreKept table.now.rule above.old }
-    ensures order { length above.new ≡ length above.old }
-    ensures low { OnOk result (LowPartsStay table.now above.old above.new) }
-    ensures rows { OnOk result (GetsRows table.now (numbers_at table.now)
-        t.now above.old above.new) }
+/// The numbers of a row: those of u, or those of the power whose values are kept at the place.
+fn row_numbers<'a>(
+    table: &'a PowerTable,
+    values: &'a PowerValues,
+    place: Option<usize>,
+    degree: u32,
+) -> &'a [i128]
+    requires { table.now.least ≤ degree }
+    ensures { result.now ≡ row_numbers table.now values.now place degree }
 {
-    for degree in table.least()..above.len() as u32 + 1 {
-        let keys = table.keys(degree);
-        let numbers = table.numbers(degree);
-        above[degree as usize - 1].add_row(table.rule(), t, keys, numbers)?;
+    match place {
+        Some(place) => values.part(table, place, degree),
+        None => table.numbers(degree),
     }
-    Ok(())
 }
 
-/// Adds the term times the power whose values are kept at the place.
+/// Adds the term times the rows of u, or of the power whose values are kept at the place.
 fn add_rows(
     above: &mut [TermSum],
     t: &(Key, i128),
     table: &PowerTable,
     values: &PowerValues,
-    n: i64,
-    place: usize,
+    place: Option<usize>,
 ) -> Result<(), AllocError>
-    requires table { IsTable table.now }
-    requires order { length above.old ≤ table.now.order }
-    requires near { HasNearTerms (term_of t.now ∷ []) }
-    requires degree { degree (key_of t.now.0) + length above.old ≤ highest_order }
-    requires keepable { IsKeepable table.now.rule t.now.1 }
-    requires kept { AreKept table.now.rule above.old }
-    requires reached { AreReached values.now table.now n (length above.old) place }
+    requires fits { FitsBelow table.now t.now above.old }
+    requires rows { AreNumbersTo table.now (length above.old)
+        (row_numbers table.now values.now place) }
     ensures order { length above.new ≡ length above.old }
     ensures low { OnOk result (LowPartsStay table.now above.old above.new) }
     ensures rows { OnOk result
-        (GetsRows table.now (values_in values.now table.now place)
-        t.now above.old above.new) }
+        (GetsRows table.now (row_numbers table.now values.now place) t.now above.old above.new) }
 {
     for degree in table.least()..above.len() as u32 + 1 {
         let keys = table.keys(degree);
-        let numbers = values.part(table, place, degree);
+        let numbers = row_numbers(table, values, place, degree);
         above[degree as usize - 1].add_row(table.rule(), t, keys, numbers)?;
     }
     Ok(())
@@ -332,26 +311,7 @@ fn clear_parts(parts: &mut [TermSum])
     }
 }
 
-/// Adds each term to the part of its degree.
-fn take_terms(
-    parts: &mut [TermSum],
-    rule: Arithmetic,
-    terms: &[(Key, i128)],
-) -> Result<(), AllocError>
-    requires kept { AreKeptValues rule (sum_of terms.now) }
-    requires low { Every (λ t. degree t.0 < length parts.old) (sum_of terms.now) }
-    requires none { (e : ℕ) → part parts.old e ≡ [] }
-    ensures order { length parts.new ≡ length parts.old }
-    ensures parts { OnOk result (TakesParts rule (sum_of terms.now) parts.new) }
-    ensures within { OnOk result (TakesWithin (sum_of terms.now) parts.new) }
-{
-    for t in terms {
-        parts[t.0.degree() as usize].add(rule, &t.0, t.1)?;
-    }
-    Ok(())
-}
-
-/// Has the parts stand for these terms alone.
+/// Has the parts stand for these terms alone: each is added to the part of its degree.
 fn begin_with(
     parts: &mut [TermSum],
     rule: Arithmetic,
@@ -364,5 +324,8 @@ fn begin_with(
     ensures within { OnOk result (TakesWithin (sum_of terms.now) parts.new) }
 {
     clear_parts(parts);
-    take_terms(parts, rule, terms)
+    for t in terms {
+        parts[t.0.degree() as usize].add(rule, &t.0, t.1)?;
+    }
+    Ok(())
 }

@@ -6,7 +6,7 @@ ghost use Rattle.scattering.specs.Collections.{Every};
 ghost use Rattle.scattering.specs.Series.{IsWallFunction, degree};
 ghost use Rattle.plane_geom.specs.Shown.{vector_of};
 ghost use Rattle.trunc_series.specs.Shown.{sum_of, HasNearTerms};
-ghost use Rattle.term_sums.specs.Sums.{AreKeptValues};
+ghost use Rattle.trunc_series.specs.Sums.{AreKeptValues};
 ghost use Rattle.wall_auto.specs.Sign.{sign};
 ghost use Rattle.wall_auto.specs.ByDegree.{IsCrossedAs};
 ghost use Rattle.wall_auto.specs.Laws.{IsLightAcross, Crosses, BoundsCrossing};

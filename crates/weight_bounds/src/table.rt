@@ -53,7 +53,6 @@ impl MassTable {
     ) -> Result<MassTable, AllocError>
         requires order { order ≤ highest_order }
         requires wall { IsWallFunction function.now.order (vector_of dir.now) function.now.terms }
-        requires near { HasNearTerms function.now.terms }
         ensures { IfOk result (IsMassTable order (vector_of dir.now) function.now.terms) }
     {
         let least = least_degree(order, function.terms());

@@ -1,6 +1,6 @@
 use Rattle.std.proofs.Common.{rules, ℕ, ℤ, List, replicate, pos, sym, subst, ◌∙◌, ap}
 use Rattle.trunc_series.proofs.Terms.{no_term}
-use Rattle.term_sums.proofs.TermLists.{value-at}
+use Rattle.trunc_series.proofs.TermLists.{value-at}
 use Rattle.power_tables.proofs.ColumnLists.{Grows, grows-first, grows-more, grows-last}
 use Rattle.power_tables.proofs.columns.column_of.Goals as goal
 

@@ -1,4 +1,4 @@
-use Rattle.term_sums.specs.Sums.{AreKeptValues}
+use Rattle.trunc_series.specs.Sums.{AreKeptValues}
 use Rattle.power_tables.proofs.ColumnLists.{Grows}
 use Rattle.power_tables.proofs.columns.column_of.Given as goal
 

@@ -1,5 +1,5 @@
 use Rattle.std.proofs.Common.{map}
-use Rattle.term_sums.specs.Sums.{AreKeptValues}
+use Rattle.trunc_series.specs.Sums.{AreKeptValues}
 use Rattle.power_tables.specs.Kept.{numbers_of}
 use Rattle.power_tables.proofs.ColumnLists.{ColumnsTo}
 use Rattle.power_tables.proofs.columns.part_of.Given as goal

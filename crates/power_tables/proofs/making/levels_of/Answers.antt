@@ -5,7 +5,7 @@ use Rattle.scattering.specs.Series.{degree}
 use Rattle.scattering.specs.ThetaProduct.{of_degree}
 use Rattle.trunc_series.specs.Shown.{sum_of}
 use Rattle.trunc_series.specs.Reduced.{Terms}
-use Rattle.trunc_series.proofs.Factors.{sum_of-where}
+use Rattle.trunc_series.proofs.Terms.{sum_of-where}
 use Rattle.power_tables.specs.Made.{TermVec, AreLevels}
 use Rattle.power_tables.proofs.Powers.{levels-push}
 use Rattle.power_tables.proofs.making.levels_of.Goals as goal

@@ -1,10 +1,8 @@
-use Rattle.std.proofs.Common.{rules, ◌≡◌, ◌≢◌, ◌+◌, ◌<◌, ◌≤◌, ◌++◌, ◌∷◌, [], List, ℤ, length, take, sym, subst, ap, ◌∙◌, arith}
+use Rattle.std.proofs.Common.{rules, ◌≡◌, ◌≢◌, ◌+◌, ◌++◌, ◌∷◌, [], ℤ, sym, ap, ◌∙◌}
 use Rattle.std.proofs.lemmas.Int.{to_z-of_z}
 use mir.Syntax.{w128}
-use Rattle.scattering.specs.Series.{Sum, degree}
-use Rattle.scattering.specs.ThetaProduct.{of_degree}
-use Rattle.trunc_series.specs.declared.key.Key.{Key as CodeKey}
-use Rattle.trunc_series.specs.Shown.{term_of, sum_of}
+use Rattle.scattering.specs.Series.{degree}
+use Rattle.trunc_series.specs.Shown.{term_of}
 use Rattle.trunc_series.proofs.Terms.{at}
 use Rattle.power_tables.specs.Tables.{column_sum}
 use Rattle.power_tables.proofs.ColumnLists.{length-push}

@@ -4,7 +4,7 @@ use Rattle.std.proofs.lemmas.Result.{IfOk-weaker}
 use Rattle.scattering.specs.Series.{key_eq, unit, rest}
 use Rattle.trunc_series.specs.Shown.{sum_of}
 use Rattle.trunc_series.specs.Reduced.{absolute_sum}
-use Rattle.trunc_series.proofs.Factors.{sum_of-where}
+use Rattle.trunc_series.proofs.Terms.{sum_of-where}
 use Rattle.power_tables.proofs.making.others_of.Goals as goal
 
 pub returns-in-Wrapping : goal.returns-in-Wrapping

@@ -1,6 +1,6 @@
 use Rattle.std.proofs.Common.{rules, ◌/◌, List, length, take, sym, subst, ap, ◌∙◌, arith}
 use Rattle.trunc_series.specs.Shown.{sum_of}
-use Rattle.term_sums.specs.Sums.{AreKeptValues}
+use Rattle.trunc_series.specs.Sums.{AreKeptValues}
 use Rattle.power_tables.specs.declared.table.Part.{Part}
 use Rattle.power_tables.specs.Made.{TermVec, AreListed}
 use Rattle.power_tables.proofs.ColumnLists.{length-push}

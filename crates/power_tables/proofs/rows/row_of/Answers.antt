@@ -1,4 +1,4 @@
-use Rattle.std.proofs.Common.{rules, ◌≡◌, ◌+◌, ◌<◌, ◌≤◌, ◌^◌, ℕ, ℤ, List, Vec, length, get_or, sym, subst, ap, ◌∙◌, arith}
+use Rattle.std.proofs.Common.{rules, ◌≡◌, ◌+◌, ◌≤◌, ◌^◌, ℕ, ℤ, List, Vec, get_or, sym, subst, ap, ◌∙◌, arith}
 use Rattle.std.specs.Global.{Global}
 use Rattle.power_tables.specs.Kept.{numbers_of}
 use Rattle.power_tables.specs.Rows.{IsFullRow}

@@ -1,8 +1,5 @@
-use Rattle.std.proofs.Common.{rules, ◌≡◌, ℤ, ℕ, subst, sym}
+use Rattle.std.proofs.Common.{rules}
 use Rattle.std.specs.Prelude.{nat_abs}
-use Rattle.std.proofs.lemmas.Int.{to_z-of_z}
-use mir.Syntax.{w64}
-use Rattle.power_tables.specs.Rows.{IsFullRow, HasFactors}
 use Rattle.power_tables.proofs.Entries.{parts-same}
 use Rattle.power_tables.proofs.RowSteps.{row-factors}
 use Rattle.power_tables.proofs.values.extend.Goals as goal

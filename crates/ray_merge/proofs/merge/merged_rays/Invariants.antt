@@ -1,18 +1,18 @@
-use Rattle.std.proofs.Common.{length, ◌+◌}
+use Rattle.std.proofs.Common.{◌≡◌, ◌+◌, length, drop}
 use Rattle.scatter_diagram.specs.Shown.{walls_of}
 use Rattle.scatter_diagram.specs.Listed.{AreOfOrder}
-use Rattle.ray_merge.specs.Rays.{AreJoinable}
+use Rattle.ray_merge.specs.Rays.{AreJoinable, place_count}
 use Rattle.ray_merge.proofs.Steps.{Merging}
 use Rattle.ray_merge.proofs.merge.merged_rays.Given as goal
 
 abbrev pub invariant-loop-place : goal.invariant-loop-place
 invariant-loop-place l = record {
   order : AreOfOrder l.order l.out.items;
-  merging : Merging l.order (walls_of l.fn.a.items) (walls_of l.fn.b.items) (walls_of l.out.items) (walls_of l.first.items) (walls_of l.second.items);
-  first : AreOfOrder l.order l.first.items;
-  second : AreOfOrder l.order l.second.items;
-  joinable : AreJoinable l.order (walls_of l.first.items) (walls_of l.second.items);
+  merging : Merging l.order l.e.diagram.rays (walls_of l.fn.added.items) (walls_of l.out.items) (drop l.i l.e.diagram.rays) (walls_of l.left.items);
+  left : AreOfOrder l.order l.left.items;
+  joinable : AreJoinable l.order (drop l.i l.e.diagram.rays) (walls_of l.left.items);
+  count : length l.out.items + place_count (drop l.i l.e.diagram.rays) (walls_of l.left.items) ≡ place_count l.e.diagram.rays (walls_of l.fn.added.items);
 }
 
 abbrev pub decreases-loop-place : goal.decreases-loop-place
-decreases-loop-place l = length l.first.items + length l.second.items
+decreases-loop-place l = length (drop l.i l.e.diagram.rays) + length l.left.items

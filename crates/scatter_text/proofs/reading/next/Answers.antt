@@ -1,36 +1,21 @@
-use Rattle.std.proofs.Common.{rules, ◌≡◌, ◌∙◌, ap, Err}
-use Rattle.std.proofs.lemmas.Bool.Decides.{not_from_Decides}
-use Rattle.scatter_text.specs.declared.fault.TextKind.TheVariants.{Value}
-use Rattle.scatter_text.specs.declared.line.LineFault.TheVariants.{Bad}
+use Rattle.std.proofs.Common.{◌∙◌, ap, Err}
 use Rattle.scatter_text.specs.declared.grammar.TextForm.TheVariants.{InitialLines}
 use Rattle.scatter_text.specs.Stages.{rows_of}
-use Rattle.scatter_text.proofs.RowTexts.{bad_value, good_line}
+use Rattle.scatter_text.proofs.RowTexts.{good_line, passed_on}
 use Rattle.scatter_text.proofs.reading.next.Goals as goal
 
 pub with-requires-clause-allowed : goal.with-requires-clause-allowed
-with-requires-clause-allowed c = (c.in-Ok.ensures.ok (rows_of c.args.stage) c.place.ensures c.variables.ensures).allowed
+with-requires-clause-allowed c = c.in_ok-row.ensures.row.allowed
 
 pub with-requires-clause-fills : goal.with-requires-clause-fills
-with-requires-clause-fills c = (c.in-Ok.ensures.ok (rows_of c.args.stage) c.place.ensures c.variables.ensures).fills
+with-requires-clause-fills c = c.in_ok-row.ensures.row.fills
 
-pub returns-then-not-allowed-clause-bad : goal.returns-then-not-allowed-clause-bad
-returns-then-not-allowed-clause-bad c = λ kind is.
-    let value : kind ≡ Value = cc in
-    bad_value InitialLines (rows_of c.args.stage) c.args.line.now c.in-Ok.row kind
-    (c.in-Ok.ensures.ok (rows_of c.args.stage) c.place.ensures c.variables.ensures)
-    (not_from_Decides c.in_ok-allowed-in-Ok.allowed c.in_ok-allowed-in-Ok.ensures c.if-not-allowed.true) value
+pub returns-in_err-row-clause-bad : goal.returns-in_err-row-clause-bad
+returns-in_err-row-clause-bad c = λ kind is. c.allowed_row.ensures.bad kind (c.in_err-row.was ∙ ap Err (passed_on c.from_residual.result _ kind c.from_residual.ensures.1 is))
 
-pub returns-in-Err-clause-bad : goal.returns-in-Err-clause-bad
-returns-in-Err-clause-bad c = λ kind is.
-    let fault : c.in-Err.fault ≡ Bad kind = cc in
-    c.row_at.ensures.bad kind (c.in-Err.is ∙ ap Err fault) (rows_of c.args.stage) c.place.ensures c.variables.ensures
-
-pub returns-in-Ok-with-clause-ok : goal.returns-in-Ok-with-clause-ok
-returns-in-Ok-with-clause-ok c = record {
-  last = c.in-Ok.row;
-  good =
-      good_line InitialLines (rows_of c.args.stage) c.args.line.now c.in-Ok.row
-      (c.in-Ok.ensures.ok (rows_of c.args.stage) c.place.ensures c.variables.ensures)
-      (c.in_ok-allowed-in-Ok.ensures.0 (search rules));
-  is = c.in-Ok-with.ensures;
+pub returns-clause-ok : goal.returns-clause-ok
+returns-clause-ok c = record {
+  last = c.in_ok-row.row;
+  good = good_line InitialLines (rows_of c.args.stage) c.args.line.now c.in_ok-row.row c.in_ok-row.ensures.row c.in_ok-row.ensures.values;
+  is = c.in_ok-with.ensures;
 }

@@ -1,5 +1,5 @@
 use Rattle.trunc_series.specs.declared.arithmetic.Arithmetic.TheVariants.{Wrapping}
-use Rattle.term_sums.specs.Sums.{AreKeptValues}
+use Rattle.trunc_series.specs.Sums.{AreKeptValues}
 use Rattle.series_tests.proofs.sums.twice_each.Given as goal
 
 abbrev pub invariant-loop-i : goal.invariant-loop-i

@@ -1,8 +1,6 @@
 use Rattle.std.proofs.Common.{rules, ◌≡◌, arith, FitsSigned, to_z, of_z, ◌+ℤ◌}
 use Rattle.std.specs.Int.{w32}
 use Rattle.std.proofs.lemmas.Int.{ints}
-use Rattle.scattering.specs.Series.{powers_add}
-use Rattle.trunc_series.specs.Shown.{powers_of}
 use Rattle.trunc_series.proofs.key.times.Goals as goal
 
 pub returns : goal.returns
@@ -15,4 +13,5 @@ returns c =
     let q = c.requires.right in
     let a : to_z w32 (of_z w32 (to_z w32 (of_z w32 c.args.k.now.exp.a) +ℤ to_z w32 (of_z w32 c.args.l.now.exp.a))) ≡ c.args.k.now.exp.a +ℤ c.args.l.now.exp.a = omega (arith, ints) in
     let b : to_z w32 (of_z w32 (to_z w32 (of_z w32 c.args.k.now.exp.b) +ℤ to_z w32 (of_z w32 c.args.l.now.exp.b))) ≡ c.args.k.now.exp.b +ℤ c.args.l.now.exp.b = omega (arith, ints) in
-    λ i. record { powers = powers_add (powers_of c.args.k.now.powers) (powers_of c.args.l.now.powers); exp = record { a = a i; b = b i } }
+    let r = c.powers_sum.ensures in
+    λ i. record { powers = r i; exp = record { a = a i; b = b i } }

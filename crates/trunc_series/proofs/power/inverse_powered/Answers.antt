@@ -6,7 +6,7 @@ use Rattle.scattering.specs.Collections.{Every}
 use Rattle.trunc_series.specs.declared.arithmetic.Arithmetic.TheVariants.{Wrapping}
 use Rattle.trunc_series.specs.Shown.{sum_of}
 use Rattle.trunc_series.specs.Reduced.{GrowsSlowly}
-use Rattle.trunc_series.proofs.Factors.{sum_of-where}
+use Rattle.trunc_series.proofs.Terms.{sum_of-where}
 use Rattle.trunc_series.proofs.PowerLaws.{rest-tame, powers-tame, reduced-keys}
 use Rattle.trunc_series.proofs.PowersNear.{tame-near, tame-powers}
 use Rattle.trunc_series.proofs.Inverses.{rest-small, minus-own, minus-tame, own-reduced, pow-reduced}

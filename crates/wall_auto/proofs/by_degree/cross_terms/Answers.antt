@@ -9,7 +9,7 @@ use Rattle.trunc_series.specs.Shown.{sum_of}
 use Rattle.trunc_series.specs.Arithmetic.{IsKeepable}
 use Rattle.trunc_series.specs.Reduced.{Terms}
 use Rattle.trunc_series.proofs.Terms.{Every-at}
-use Rattle.term_sums.proofs.TermLists.{keepable-values}
+use Rattle.trunc_series.proofs.TermLists.{keepable-values}
 use Rattle.wall_auto.specs.Sign.{sign}
 use Rattle.wall_auto.specs.Gains.{GainsTerms, KeepsGrowth}
 use Rattle.wall_auto.proofs.PartGains.{more-gained, more-within}
@@ -21,14 +21,15 @@ exponent-n-requires-clause-a c = (Every-at (λ t. (nat_abs t.0.exp.a ≤ 65536) 
 pub exponent-n-requires-clause-b : goal.exponent-n-requires-clause-b
 exponent-n-requires-clause-b c = (Every-at (λ t. (nat_abs t.0.exp.a ≤ 65536) × (nat_abs t.0.exp.b ≤ 65536)) c.args.terms.now c.loop-t.t-index (omega arith) c.requires.near).1
 
-pub cross_term-requires-clause-near : goal.cross_term-requires-clause-near
-cross_term-requires-clause-near c = (Every-at (λ t. (nat_abs t.0.exp.a ≤ 65536) × (nat_abs t.0.exp.b ≤ 65536)) c.args.terms.now c.loop-t.t-index (omega arith) c.requires.near, tt)
-
-pub cross_term-requires-clause-degree : goal.cross_term-requires-clause-degree
-cross_term-requires-clause-degree c = rw c.loop-t.invariant.order (Every-at (λ t. degree t.0 + length c.args.above.now ≤ 24) c.args.terms.now c.loop-t.t-index (omega arith) c.requires.degrees)
-
-pub cross_term-requires-clause-keepable : goal.cross_term-requires-clause-keepable
-cross_term-requires-clause-keepable c = Every-at (λ t. IsKeepable c.args.table.now.rule t.1) c.args.terms.now c.loop-t.t-index (omega arith) (keepable-values c.args.table.now.rule (sum_of c.args.terms.now) c.requires.terms)
+pub cross_term-requires-clause-fits : goal.cross_term-requires-clause-fits
+cross_term-requires-clause-fits c = record {
+  table = c.requires.table;
+  order = rw c.loop-t.invariant.order c.requires.order;
+  near = (Every-at (λ t. (nat_abs t.0.exp.a ≤ 65536) × (nat_abs t.0.exp.b ≤ 65536)) c.args.terms.now c.loop-t.t-index (omega arith) c.requires.near, tt);
+  degree = rw c.loop-t.invariant.order (Every-at (λ t. degree t.0 + length c.args.above.now ≤ 24) c.args.terms.now c.loop-t.t-index (omega arith) c.requires.degrees);
+  keepable = Every-at (λ t. IsKeepable c.args.table.now.rule t.1) c.args.terms.now c.loop-t.t-index (omega arith) (keepable-values c.args.table.now.rule (sum_of c.args.terms.now) c.requires.terms);
+  kept = c.loop-t.invariant.kept;
+}
 
 pub loop-t-preserved : goal.loop-t-preserved
 loop-t-preserved c =

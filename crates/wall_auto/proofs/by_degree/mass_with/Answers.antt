@@ -3,7 +3,7 @@ use Rattle.std.specs.Prelude.{pos, ◌≤ℤ◌}
 use Rattle.trunc_series.specs.declared.arithmetic.Arithmetic.TheVariants.{Saturating}
 use Rattle.trunc_series.specs.Shown.{sum_of}
 use Rattle.trunc_series.proofs.Terms.{Every-at}
-use Rattle.term_sums.proofs.TermLists.{keepable-values}
+use Rattle.trunc_series.proofs.TermLists.{keepable-values}
 use Rattle.wall_auto.proofs.Parts.{size-step}
 use Rattle.wall_auto.proofs.by_degree.mass_with.Goals as goal
 

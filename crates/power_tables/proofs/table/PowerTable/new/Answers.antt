@@ -15,14 +15,14 @@ least_degree-least-requires-clause-positive c =
 
 pub made_parts-requires-clause-others : goal.made_parts-requires-clause-others
 made_parts-requires-clause-others c =
-    rw (c.order.ensures, c.as_slice-u.ensures.value, c.in_ok-u.ensures, c.terms.ensures.terms)
+    rw (c.order.ensures.value, c.as_slice-u.ensures.value, c.in_ok-u.ensures, c.terms.ensures.terms)
     (others-of c.args.rule c.args.function.now.order c.requires.wall.0 c.args.function.now.terms c.terms.ensures.valid c.requires.wall.1 c.requires.near)
 
 pub invariant_of-result : goal.invariant_of-result
 invariant_of-result c =
     let e : sum_of c.as_slice-u.result.now ≡ code_others c.args.rule c.args.function.now.terms = rw (c.as_slice-u.ensures.value, c.in_ok-u.ensures, c.terms.ensures.terms) refl in
     table-sound c.args.rule c.args.function.now.terms c.args.order c.least_degree-least.result c.in_ok-parts.parts.items c.requires.order c.least_degree-least.ensures.positive c.least_degree-least.ensures.within c.in_ok-parts.ensures.count
-    (c.in_ok-parts.ensures.parts c.args.function.now.terms (rw c.order.ensures c.terms.ensures.valid) e)
+    (c.in_ok-parts.ensures.parts c.args.function.now.terms (rw c.order.ensures.value c.terms.ensures.valid) e)
 
 pub returns : goal.returns
 returns c =
@@ -35,4 +35,4 @@ returns c =
     table-law c.args.rule c.args.order c.args.function.now.order c.least_degree-least.result c.requires.wall.0 c.args.function.now.terms c.requires.wall.1 p
     (others-alike c.args.rule c.args.function.now.order c.args.function.now.terms c.terms.ensures.valid).right
     (near-grows c.args.function.now.terms c.requires.near p) c.requires.order c.least_degree-least.ensures.positive l (least-others c.args.rule c.least_degree-least.result c.args.function.now.terms l) c.in_ok-parts.parts.items
-    (c.in_ok-parts.ensures.parts c.args.function.now.terms (rw c.order.ensures c.terms.ensures.valid) e) c.in_ok-parts.ensures.count
+    (c.in_ok-parts.ensures.parts c.args.function.now.terms (rw c.order.ensures.value c.terms.ensures.valid) e) c.in_ok-parts.ensures.count

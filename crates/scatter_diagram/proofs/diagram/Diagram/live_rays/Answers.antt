@@ -8,7 +8,7 @@ use Rattle.scattering.proofs.Lists.{map-append, Every-append}
 use Rattle.completion_theory.proofs.LowerOrders.{reduced-lower}
 use Rattle.scatter_diagram.specs.declared.wall.Wall.{Wall as CodeWall}
 use Rattle.scatter_diagram.specs.Shown.{wall_of, walls_of}
-use Rattle.scatter_diagram.specs.Listed.{AreOfOrder, SeenDiagram}
+use Rattle.scatter_diagram.specs.Listed.{AreOfOrder}
 use Rattle.scatter_diagram.proofs.Stored.{with-live, without-live}
 use Rattle.scatter_diagram.proofs.diagram.Diagram.live_rays.Goals as goal
 use Rattle.scatter_diagram.proofs.diagram.Diagram.live_rays.Goals.{then-is_live+in_ok-push, else-is_live}
@@ -19,7 +19,7 @@ loop-i-preserved c =
     let rs = c.args.self.now.diagram.rays in
     let i = c.loop-i.i in
     let r = wall_of c.ray.result.now in
-    let l : i < length rs = let t = c.loop-i-test.true in let e = c.ray_count-i-end.ensures in omega (arith, t, e) in
+    let l : i < length rs = let t = c.loop-i-test.true in let e = c.ray_count-i-end.ensures.count in omega (arith, t, e) in
     let out = c.loop-i.out.items in
     let low = c.in_ok-low.low in
     elim c.if-is_live.branch [
@@ -43,10 +43,10 @@ pub returns-clause-rays : goal.returns-clause-rays
 returns-clause-rays c =
     let rs = c.args.self.now.diagram.rays in
     let t = c.loop-i-test.false in
-    let e = c.ray_count-i-end.ensures in
+    let e = c.ray_count-i-end.ensures.count in
     let walls = c.loop-i.invariant.walls ∙ ap (λ us. filter is_live (cut_walls c.args.order us)) (take_all c.loop-i.i rs (omega (arith, t, e))) in
     record {
       order = c.loop-i.invariant.order;
       outgoing = c.loop-i.invariant.outgoing;
-      reduced = subst IsReduced (sym walls) (reduced-lower c.args.order rs (subst (λ (s : SeenDiagram). IsReduced s.diagram.rays) c.self.view_is c.self.invariant.reduced));
+      reduced = subst IsReduced (sym walls) (reduced-lower c.args.order rs c.ray_count-i-end.ensures.rays.reduced);
     }

@@ -3,7 +3,7 @@ use Rattle.std.specs.Prelude.{not}
 use Rattle.scattering.specs.Series.{key_eq, unit, rest, geometric}
 use Rattle.trunc_series.specs.Shown.{sum_of}
 use Rattle.trunc_series.proofs.Majorants.{MadeMajorant, own-majorant, made-majorant}
-use Rattle.trunc_series.proofs.Factors.{sum_of-where}
+use Rattle.trunc_series.proofs.Terms.{sum_of-where}
 use Rattle.trunc_series.proofs.PowerLaws.{rest-tame}
 use Rattle.trunc_series.proofs.Inverses.{majorant-rest, absolute-positive, tame-filter}
 use Rattle.trunc_series.proofs.majorant.Majorant.geometric.Goals as goal

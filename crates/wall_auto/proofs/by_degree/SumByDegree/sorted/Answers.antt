@@ -1,7 +1,7 @@
 use Rattle.std.proofs.Common.{◌∙◌, sym, subst, take, arith, List}
 use Rattle.scattering.specs.Series.{Sum}
 use Rattle.trunc_series.specs.Shown.{sum_of}
-use Rattle.term_sums.proofs.SortedLists.{sorted-keepable}
+use Rattle.trunc_series.proofs.SortedLists.{sorted-keepable}
 use Rattle.wall_auto.specs.ByDegree.{IsSortedWhole}
 use Rattle.wall_auto.proofs.Parts.{one-more-sorted, all-sorted, sorted-whole}
 use Rattle.wall_auto.proofs.by_degree.SumByDegree.sorted.Goals as goal

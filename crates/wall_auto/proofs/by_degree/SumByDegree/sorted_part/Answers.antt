@@ -2,7 +2,7 @@ use Rattle.std.proofs.Common.{◌≡◌, subst}
 use Rattle.std.proofs.lemmas.Result.{IfOk-weaker}
 use Rattle.scattering.specs.Series.{Sum}
 use Rattle.trunc_series.specs.Shown.{sum_of}
-use Rattle.term_sums.specs.Sums.{IsSortedFor}
+use Rattle.trunc_series.specs.Sums.{IsSortedFor}
 use Rattle.wall_auto.specs.ByDegree.{part}
 use Rattle.wall_auto.proofs.PartRows.{read-part}
 use Rattle.wall_auto.proofs.Parts.{sorted-part}

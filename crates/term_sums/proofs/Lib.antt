@@ -1,2 +1,0 @@
-pub mod SortedLists
-pub mod TermLists

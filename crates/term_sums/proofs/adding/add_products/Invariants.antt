@@ -1,8 +1,0 @@
-use Rattle.std.proofs.Common.{◌++◌, take, zip}
-use Rattle.trunc_series.specs.Shown.{sum_of}
-use Rattle.term_sums.specs.Sums.{StandsFor}
-use Rattle.term_sums.proofs.TermLists.{products}
-use Rattle.term_sums.proofs.adding.add_products.Given as goal
-
-abbrev pub invariant-loop-i : goal.invariant-loop-i
-invariant-loop-i l = StandsFor l.rule (sum_of l.terms.items) (products l.t (take l.i (zip l.keys l.values)) ++ sum_of l.fn.terms.items)
