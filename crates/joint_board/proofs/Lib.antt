@@ -1,0 +1,9 @@
+pub mod Sums
+pub mod Views
+pub mod Moves
+pub mod Numbers
+pub mod Results
+pub mod Joining
+pub mod Machine
+pub mod Gathered
+pub mod Draws

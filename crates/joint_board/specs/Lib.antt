@@ -1,0 +1,4 @@
+pub mod Seen
+pub mod Rule
+pub mod Machine
+pub mod Gathering
