@@ -1,8 +1,8 @@
 // A run of words and an input, and how it must end.
 
-ghost use Rattle.std.specs.Prelude.{◌<◌, ◌-◌, ◌^◌};
+ghost use Rattle.std.specs.Prelude.{◌≡◌, ◌<◌, ◌-◌, ◌^◌, IfOk};
 
-use outside_io::{MemSink, MemSource, OpenGate, Sink, Source};
+use outside_io::{Gate, MemSink, MemSource, OpenGate, Sink, Source};
 use scatter_run::{Status, run};
 use std::alloc::{AllocError, Global};
 use std::thread::Threads;
@@ -28,29 +28,60 @@ fn words_of(alloc: Global, command: &str) -> Result<Vec<String>, AllocError> {
     Ok(words)
 }
 
-/// Whether a run from the source to the sink ends with this status.
-pub fn ends_with<R: Threads + Sync, S: Source, K: Sink>(
+/// Whether a run from the source to the sink under this gate ends with this status.
+pub fn ends_with<R: Threads + Sync, S: Source, K: Sink, G: Gate>(
     rt: &R,
     command: (Global, &str),
     source: &mut S,
     sink: &mut K,
-    status: Status,
+    told: (&G, Status),
 ) -> Result<bool, AllocError>
     requires source { S.faults source.old < 2 ^ 64 - 1 }
     requires sink { K.faults sink.old < 2 ^ 64 - 1 }
 {
     let (alloc, words) = command;
+    let (gate, status) = told;
     let words = words_of(alloc, words)?;
-    Ok(run(rt, alloc, words.as_slice(), source, sink, &OpenGate) == status)
+    Ok(run(rt, alloc, words.as_slice(), source, sink, gate) == status)
+}
+
+/// Whether a run from the source to the sink ends with this status, and the sink then holds this.
+pub fn prints<R: Threads + Sync, S: Source>(
+    rt: &R,
+    command: (Global, &str),
+    source: &mut S,
+    sink: &mut MemSink,
+    told: (Status, &[u8]),
+) -> Result<bool, AllocError>
+    requires source { S.faults source.old < 2 ^ 64 - 1 }
+    requires sink { sink.old.faults < 2 ^ 64 - 1 }
+{
+    let (status, output) = told;
+    let ended = ends_with(rt, command, source, sink, (&OpenGate, status))?;
+    Ok(ended && sink.held() == output)
+}
+
+/// A source of this input whose read of this number fails; none does where that is 0.
+pub fn source_of(alloc: Global, input: &str, fails: u64) -> Result<MemSource, AllocError>
+    ensures { IfOk result (λ s. s.faults ≡ 0) }
+{
+    let input = input.as_bytes().to_vec(alloc)?;
+    Ok(MemSource::new(input, vec![in alloc; fails]?))
+}
+
+/// A sink whose write of this number fails; none does where that is 0.
+pub fn sink_of(alloc: Global, fails: u64) -> Result<MemSink, AllocError>
+    ensures { IfOk result (λ s. s.faults ≡ 0) }
+{
+    MemSink::new(alloc, 4096, vec![in alloc; fails]?)
 }
 
 /// Whether a run of the case, with no failure, ends and prints as it must.
 fn is_met<R: Threads + Sync>(rt: &R, alloc: Global, case: &Case) -> Result<bool, AllocError> {
-    let input = case.input.as_bytes().to_vec(alloc)?;
-    let mut source = MemSource::new(input, Vec::new(alloc));
-    let mut sink = MemSink::new(alloc, 4096, Vec::new(alloc))?;
-    let ended = ends_with(rt, (alloc, case.words), &mut source, &mut sink, case.status)?;
-    Ok(ended && sink.held() == case.output.as_bytes())
+    let mut source = source_of(alloc, case.input, 0)?;
+    let mut sink = sink_of(alloc, 0)?;
+    let told = (case.status, case.output.as_bytes());
+    prints(rt, (alloc, case.words), &mut source, &mut sink, told)
 }
 
 /// What the first case stands for that doesn't end and print as it must, if there is one.

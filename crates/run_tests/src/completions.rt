@@ -1,7 +1,7 @@
 // Runs that complete their lines, to the order that is asked or the last before a stop.
 
 use crate::case::{Case, first_unmet};
-use crate::inputs::{ONE_AND_TWO, TWO_LINES, TWO_LINES_AT_1};
+use crate::inputs::{ONE_AND_TWO, THREE_LINES, TWO_LINES, TWO_LINES_AT_1};
 use scatter_diagram::StopCause;
 use scatter_run::Status;
 use std::test::Fail;
@@ -296,16 +296,7 @@ end
     Case {
         meaning: "three lines with three meetings",
         words: "complete 3 1",
-        input: "scatter 1
-vars 3
-line 1 0 at 0 0
-term 1 1 1 0 0
-line 0 1 at 0 0
-term 1 1 0 1 0
-line 1 0 at 0 1
-term 1 1 0 0 1
-end
-",
+        input: THREE_LINES,
         status: Status::Done,
         output: "scatter 1
 vars 3

@@ -30,3 +30,15 @@ term 2 1 0 1
 term 1 2 0 2
 end
 ";
+
+// 1 + t1*x, 1 + t2*y and 1 + t3*x on three lines, which meet in (0, 0) and (0, 1).
+pub const THREE_LINES: &str = "scatter 1
+vars 3
+line 1 0 at 0 0
+term 1 1 1 0 0
+line 0 1 at 0 0
+term 1 1 0 1 0
+line 1 0 at 0 1
+term 1 1 0 0 1
+end
+";

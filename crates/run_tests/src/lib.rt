@@ -6,6 +6,8 @@ mod case;
 #[cfg(test)]
 mod completions;
 #[cfg(test)]
+mod gates;
+#[cfg(test)]
 mod inputs;
 #[cfg(test)]
 mod outside;

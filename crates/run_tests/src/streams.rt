@@ -2,9 +2,9 @@
 
 ghost use Rattle.std.specs.Prelude.{None};
 
-use crate::case::ends_with;
+use crate::case::{prints, sink_of, source_of};
 use crate::inputs::{ONE_AND_TWO, TWO_LINES, TWO_LINES_AT_1};
-use outside_io::{Failed, MemSink, MemSource, OpenGate, Source};
+use outside_io::{Failed, MemSource, OpenGate, Source};
 use scatter_run::{Status, complete_job};
 use scatter_text::LimitKind;
 use std::alloc::{AllocError, Global};
@@ -21,11 +21,10 @@ fn is_told<R: Threads + Sync>(
     output: &str,
 ) -> Result<bool, AllocError> {
     let (read, write) = fails;
-    let input = ONE_AND_TWO.as_bytes().to_vec(alloc)?;
-    let mut source = MemSource::new(input, vec![in alloc; read]?);
-    let mut sink = MemSink::new(alloc, 4096, vec![in alloc; write]?)?;
-    let ended = ends_with(rt, (alloc, "complete 4 2"), &mut source, &mut sink, status)?;
-    Ok(ended && sink.held() == output.as_bytes())
+    let mut source = source_of(alloc, ONE_AND_TWO, read)?;
+    let mut sink = sink_of(alloc, write)?;
+    let told = (status, output.as_bytes());
+    prints(rt, (alloc, "complete 4 2"), &mut source, &mut sink, told)
 }
 
 #[test]
@@ -61,12 +60,11 @@ impl Source for Trickle {
 }
 
 /// Whether an input that comes byte by byte is completed as one that comes whole.
-fn small_pieces_count_whole(alloc: Global) -> Result<bool, AllocError> {
-    let input = TWO_LINES.as_bytes().to_vec(alloc)?;
-    let rest = MemSource::new(input, Vec::new(alloc));
+fn small_pieces_count_whole<R: Threads + Sync>(rt: &R, alloc: Global) -> Result<bool, AllocError> {
+    let rest = source_of(alloc, TWO_LINES, 0)?;
     let mut source = Trickle { rest };
-    let mut sink = MemSink::new(alloc, 4096, Vec::new(alloc))?;
-    let status = complete_job(alloc, 1, 1, &mut source, &mut sink, &OpenGate);
+    let mut sink = sink_of(alloc, 0)?;
+    let status = complete_job(rt, alloc, 1, 1, &mut source, &mut sink, &OpenGate);
     Ok(status == Status::Done && sink.held() == TWO_LINES_AT_1.as_bytes())
 }
 
@@ -74,17 +72,16 @@ fn small_pieces_count_whole(alloc: Global) -> Result<bool, AllocError> {
 fn one_byte_too_many_is_told<R: Threads + Sync>(rt: &R, alloc: Global) -> Result<bool, AllocError> {
     let input = vec![in alloc; b'\n'; 1048577]?;
     let mut source = MemSource::new(input, Vec::new(alloc));
-    let mut sink = MemSink::new(alloc, 4096, Vec::new(alloc))?;
+    let mut sink = sink_of(alloc, 0)?;
     let which = LimitKind::Bytes;
-    let status = Status::Limit { which };
-    let ended = ends_with(rt, (alloc, "complete 2 1"), &mut source, &mut sink, status)?;
-    Ok(ended && sink.held() == b"fault limit bytes\n".as_slice())
+    let told = (Status::Limit { which }, b"fault limit bytes\n".as_slice());
+    prints(rt, (alloc, "complete 2 1"), &mut source, &mut sink, told)
 }
 
 #[test]
 fn inputs_are_read_to_their_end(rt: HostRuntime) -> Result<(), Fail> {
     let alloc = rt.alloc();
-    let small = small_pieces_count_whole(alloc)?;
+    let small = small_pieces_count_whole(&rt, alloc)?;
     assert!(rt; small);
     let long = one_byte_too_many_is_told(&rt, alloc)?;
     assert!(rt; long);

@@ -1,3 +1,4 @@
+pub mod CommandLine
 pub mod CompletedText
 pub mod OneOutcome
 pub mod Promises

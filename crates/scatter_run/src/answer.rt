@@ -1,12 +1,14 @@
 //! What `complete` answers on the bytes of its input.
 ghost use Rattle.std.specs.Prelude.{◌≡◌, ◌≤◌, length, IfOk, string_bytes};
-ghost use Rattle.limits.specs.Limits.{highest_order, most_bytes};
+ghost use Rattle.limits.specs.Limits.{highest_order, most_bytes, most_workers};
 ghost use Rattle.scatter_run.specs.Outcome.{IsCompleteOutcome, bad_text, limit_fault_text};
 
 use crate::completing::complete;
 use crate::status::Status;
+use outside_io::Gate;
 use scatter_text::{LimitKind, TextFault, TextKind, check_limits, read_text};
 use std::alloc::{AllocError, Global};
+use std::thread::Threads;
 
 /// A status with the text that goes with it.
 #[derive(Drop)]
@@ -16,14 +18,23 @@ pub(crate) struct Answer {
 }
 
 /// What `complete` answers on these bytes.
-pub(crate) fn answer_to(alloc: Global, order: u32, bytes: &[u8]) -> Result<Answer, AllocError>
+pub(crate) fn answer_to<R: Threads + Sync, G: Gate>(
+    rt: &R,
+    alloc: Global,
+    order: u32,
+    workers: u32,
+    bytes: &[u8],
+    gate: &G,
+) -> Result<Answer, AllocError>
     requires short { length bytes.now ≤ most_bytes }
     requires order { order ≤ highest_order }
+    requires some { 1 ≤ workers }
+    requires few { workers ≤ most_workers }
     ensures { IfOk result (λ a. IsCompleteOutcome order bytes.now a.status a.text.items) }
 {
     match read_text(alloc, bytes) {
         Ok(file) => match check_limits(&file, order) {
-            None => complete(alloc, &file, order),
+            None => complete(rt, alloc, &file, order, workers, gate),
             Some(which) => Ok(Answer {
                 status: Status::Limit { which },
                 text: limit_fault(alloc, which)?.into_bytes(),

@@ -1,15 +1,17 @@
 //! The job `complete` on the values of a file.
 ghost use Rattle.std.specs.Prelude.{◌≡◌, ◌≤◌, None, IfOk};
-ghost use Rattle.limits.specs.Limits.{highest_order};
+ghost use Rattle.limits.specs.Limits.{highest_order, most_workers};
 ghost use Rattle.scatter_text.specs.Limits.{limit_of};
 ghost use Rattle.scatter_run.specs.Outcome.{IsEnded, ends_with};
 
 use crate::answer::Answer;
 use crate::status::Status;
+use crate::workers::complete_by_workers;
+use outside_io::Gate;
 use scatter_diagram::StopCause;
-use scatter_step::complete_plain;
 use scatter_text::{TextFile, initial_of, write_diagram};
 use std::alloc::{AllocError, Global};
+use std::thread::Threads;
 
 /// The status of a completion with the first stop, if there is one.
 fn status_of(stop: Option<(u32, StopCause)>) -> Status
@@ -22,13 +24,22 @@ fn status_of(stop: Option<(u32, StopCause)>) -> Status
 }
 
 /// What `complete` answers on a file that passes no limit.
-pub(crate) fn complete(alloc: Global, file: &TextFile, order: u32) -> Result<Answer, AllocError>
+pub(crate) fn complete<R: Threads + Sync, G: Gate>(
+    rt: &R,
+    alloc: Global,
+    file: &TextFile,
+    order: u32,
+    workers: u32,
+    gate: &G,
+) -> Result<Answer, AllocError>
     requires order { order ≤ highest_order }
+    requires some { 1 ≤ workers }
+    requires few { workers ≤ most_workers }
     requires within { limit_of file.now order ≡ None }
     ensures { IfOk result (λ a. IsEnded file.now order a.status a.text.items) }
 {
     let initial = initial_of(alloc, file)?;
-    let outcome = complete_plain(alloc, &initial, order)?;
+    let outcome = complete_by_workers(rt, alloc, &initial, order, workers, gate)?;
     let text = write_diagram(alloc, outcome.last.diagram(), initial.vars(), outcome.stop)?;
     Ok(Answer {
         status: status_of(outcome.stop),

@@ -19,7 +19,7 @@ use std::thread::Threads;
 /// Does all that the program does: reads the words, runs their job from the source to the sink, and
 /// says how it ended.
 pub fn run<R: Threads + Sync, S: Source, K: Sink, G: Gate>(
-    _rt: &R,
+    rt: &R,
     alloc: Global,
     words: &[String],
     source: &mut S,
@@ -41,28 +41,33 @@ pub fn run<R: Threads + Sync, S: Source, K: Sink, G: Gate>(
     // Words are refused exactly where they name no job, and by their text alone.
     ensures words { result ≡ Status.Words → NameNoJob (word_bytes words.now) }
     ensures no_job { NameNoJob (word_bytes words.now)
-        → (result ≡ Status.Words) ⊎ (result ≡ Status.WriteFault) }
+        → (result ≡ Status.Words) ⊎ (result ≡ Status.WriteFault) ⊎ (result ≡ Status.Memory) }
+    ensures unread { NameNoJob (word_bytes words.now)
+        → (S.left source.new ≡ S.left source.old) × (S.faults source.new ≡ S.faults source.old) }
     ensures words_text { result ≡ Status.Words
         → IsWritten (K.held sink.old) (K.held sink.new) words_fault_text }
     ensures words_cut { NameNoJob (word_bytes words.now) → result ≡ Status.WriteFault
         → IsCutShort (K.held sink.old) (K.held sink.new) words_fault_text }
 {
-    match read_words(words) {
-        Some(Job::Complete { order, workers }) => {
-            complete_job(alloc, order, workers, source, sink, gate)
+    match read_words(alloc, words) {
+        Ok(Some(Job::Complete { order, workers })) => {
+            complete_job(rt, alloc, order, workers, source, sink, gate)
         }
-        None => give(sink, Status::Words, b"fault words\n"),
+        Ok(None) => give(sink, Status::Words, b"fault words\n"),
+        Err(_) => Status::Memory,
     }
 }
 
-/// `complete`: reads lines, and prints their completion at the order.
-pub fn complete_job<S: Source, K: Sink, G: Gate>(
+/// `complete`: reads lines, and prints their completion at the order, which so many workers compute, from
+/// 1 to 16. The gate is told of each task before a worker begins it.
+pub fn complete_job<R: Threads + Sync, S: Source, K: Sink, G: Gate>(
+    rt: &R,
     alloc: Global,
     order: u32,
     workers: u32,
     source: &mut S,
     sink: &mut K,
-    _gate: &G,
+    gate: &G,
 ) -> Status
     requires order { order ≤ highest_order }
     requires some { 1 ≤ workers }
@@ -76,7 +81,7 @@ pub fn complete_job<S: Source, K: Sink, G: Gate>(
     ensures no_words { result ≡ Status.Words → ⊥ }
 {
     match read_input(alloc, source) {
-        Ok(bytes) => match answer_to(alloc, order, bytes.as_slice()) {
+        Ok(bytes) => match answer_to(rt, alloc, order, workers, bytes.as_slice(), gate) {
             Ok(answer) => give(sink, answer.status, answer.text.as_slice()),
             Err(_) => Status::Memory,
         },

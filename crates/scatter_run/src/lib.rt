@@ -8,6 +8,7 @@ mod laws;
 mod reading;
 mod status;
 mod words;
+mod workers;
 mod writing;
 
 pub use jobs::{complete_job, run};

@@ -9,7 +9,7 @@ use Rattle.scatter_run.proofs.CompletedText.{ended}
 use Rattle.scatter_run.proofs.completing.complete.Goals as goal
 
 pub returns : goal.returns
-returns c =
+returns g c =
     let stop = c.in_ok-outcome.outcome.stop in
     let last = c.in_ok-outcome.outcome.last in
     let text = c.in_ok-text.text.items in

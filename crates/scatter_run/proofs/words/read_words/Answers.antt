@@ -1,25 +1,40 @@
--- The three words, one by one.
-use Rattle.std.proofs.Common.{◌≡◌, ◌+◌, ◌≤◌, ◌<◌, ℕ, List, [], ◌∷◌, sym, ap, ◌∙◌, arith}
-use Rattle.std.specs.Prelude.{String, string_bytes, codes, decimal}
-use Rattle.std.specs.declared.alloc.Global.{Global}
-use Rattle.limits.specs.Limits.{highest_order, most_workers}
-use Rattle.scatter_run.specs.Words.{AreCompleteWords, word_bytes}
-use Rattle.scatter_run.proofs.WordLists.{three-items}
+-- The words as the command line has them; or one begins as no job's word does, or the command line takes none.
+use Rattle.std.proofs.Common.{◌≡◌, ◌∙◌, sym, ap, subst, ℕ, List, false}
+use Rattle.std.specs.Prelude.{IfSome, IfNone, string_bytes}
+use Rattle.std.specs.List.{list_any}
+use Rattle.clap.specs.Words.{App, HasMatchesOf, app_of, found_of, is_simple, matches_of, rows_of, takes}
+use Rattle.clap.specs.declared.parser.matches.ArgMatches.{ArgMatches}
+use Rattle.clap.proofs.WalkLemmas.{list_any-map}
+use Rattle.scatter_run.specs.CommandLine.{begins_with_hyphen, command_line, words_read}
+use Rattle.scatter_run.specs.Words.{AreWordsOf, NameNoJob, word_bytes}
+use Rattle.scatter_run.proofs.CommandLine.{read-as-written}
+use Rattle.scatter_run.proofs.WordLists.{flagged-names-none, job-taken, unflagged-plain}
 use Rattle.scatter_run.proofs.words.read_words.Goals as goal
 
-named : (words : List (String Global)) (a b c : String Global) (o w : ℕ) → words ≡ a ∷ b ∷ c ∷ [] → string_bytes a ≡ codes "complete" → string_bytes b ≡ decimal o → string_bytes c ≡ decimal w → o < highest_order + 1 → 1 ≤ w → w < most_workers + 1 → AreCompleteWords (word_bytes words) o w
-named words a b c o w e ea eb ec ho hl hm = record {
-  words = ap word_bytes e ∙ ap (λ x. x ∷ string_bytes b ∷ string_bytes c ∷ []) ea ∙ ap (λ x. codes "complete" ∷ x ∷ string_bytes c ∷ []) eb ∙ ap (λ x. codes "complete" ∷ decimal o ∷ x ∷ []) ec;
-  order_most = omega (arith, ho);
-  workers_least = hl;
-  workers_most = omega (arith, hm);
-}
+are-read : (words : List (List ℕ)) (a : App) (m : ArgMatches) → list_any begins_with_hyphen words ≡ false → a ≡ command_line → HasMatchesOf a words m → words_read (rows_of (found_of m)) ≡ words
+are-read words a m plain e h = ap words_read ((h (ap is_simple e)).0 ∙ ap (λ (x : App). matches_of x words) e) ∙ read-as-written words (unflagged-plain words plain)
 
-pub returns-clause-job : goal.returns-clause-job
-returns-clause-job c =
-    named c.args.words.now c.job-item.result c.order-item.result c.workers-item.result c.in_ok-order.order c.in_ok-workers.workers
-    (three-items c.args.words.now c.job-item.result c.order-item.result c.workers-item.result c.in-len3.len_at_least c.in-len3.len_below c.job-item.is c.order-item.is c.workers-item.is)
-    (sym c.as_str.ensures.value ∙ c.names_complete.ensures.0 c.if-not-names_complete.false)
-    (sym c.as_str-2.ensures.value ∙ c.in_ok-order.ensures.some.2)
-    (sym c.as_str-3.ensures.value ∙ c.in_ok-workers.ensures.some.2)
-    c.in_ok-order.ensures.some.1 c.in_ok-workers.ensures.some.0 c.in_ok-workers.ensures.some.1
+pub returns-then-has_hyphen-clause-none : goal.returns-then-has_hyphen-clause-none
+returns-then-has_hyphen-clause-none c =
+    flagged-names-none (word_bytes c.args.words.now) (sym (list_any-map begins_with_hyphen string_bytes c.args.words.now) ∙ sym c.has_hyphen.ensures ∙ c.if-has_hyphen.true)
+
+pub returns-in-Ok-clause-job : goal.returns-in-Ok-clause-job
+returns-in-Ok-clause-job c =
+    subst (λ (ws : List (List ℕ)). IfSome c.job_in.result (λ job. AreWordsOf ws job))
+    (are-read (word_bytes c.args.words.now) (app_of c.in_ok-command_line.field-0) c.in-Ok.matches
+    (sym (list_any-map begins_with_hyphen string_bytes c.args.words.now) ∙ sym c.has_hyphen.ensures ∙ c.if-has_hyphen.false) c.in_ok-command_line.ensures c.in-Ok.ensures.matches)
+    c.job_in.ensures.job
+
+pub returns-in-Ok-clause-none : goal.returns-in-Ok-clause-none
+returns-in-Ok-clause-none c =
+    subst (λ (ws : List (List ℕ)). IfNone c.job_in.result (NameNoJob ws))
+    (are-read (word_bytes c.args.words.now) (app_of c.in_ok-command_line.field-0) c.in-Ok.matches
+    (sym (list_any-map begins_with_hyphen string_bytes c.args.words.now) ∙ sym c.has_hyphen.ensures ∙ c.if-has_hyphen.false) c.in_ok-command_line.ensures c.in-Ok.ensures.matches)
+    c.job_in.ensures.none
+
+pub returns : goal.returns
+returns c = record {
+  job = tt;
+  none = λ job a. c.in_default.not-OutOfMemory
+      (c.kind.ensures ∙ c.in-Err.ensures.passes (ap (λ (x : App). takes x (word_bytes c.args.words.now)) c.in_ok-command_line.ensures ∙ job-taken (word_bytes c.args.words.now) job a));
+}
