@@ -239,7 +239,3 @@ columns-next rule ps d ks ks' first c higher r h t g = record {
   count = (let e = length-push higher c in let f = t.count in omega (arith, e, f));
   alone = λ e. absurd (let f = length-push higher c in omega (arith, e, f));
 }
-
-pub map-push : {A B : Type 0} (g : A → B) (xs : List A) (x : A) → map g (xs ++ x ∷ []) ≡ map g xs ++ g x ∷ []
-map-push g [] x = refl
-map-push g (y ∷ xs) x = ap (λ r. g y ∷ r) (map-push g xs x)

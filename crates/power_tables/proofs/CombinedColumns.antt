@@ -1,8 +1,7 @@
 -- Values to which the columns of a part are added, each times the number of its power.
-use Rattle.std.proofs.Common.{◌≡◌, ℕ, zero, suc, ◌+◌, ◌<◌, refl, sym, subst, ap, ◌∙◌, List, [], ◌∷◌, ◌++◌, length, replicate, map, take, get_or, Vec, arith}
+use Rattle.std.proofs.Common.{◌≡◌, ℕ, suc, ◌+◌, ◌<◌, sym, subst, ap, ◌∙◌, List, [], ◌∷◌, ◌++◌, length, replicate, take, get_or, arith}
 use Rattle.std.specs.Prelude.{ℤ, pos, ◌+ℤ◌, ◌*ℤ◌}
 use Rattle.std.proofs.lemmas.Int.{ints}
-use Rattle.std.specs.Global.{Global}
 use Rattle.std.proofs.lemmas.List.{take_more}
 use Rattle.scattering.specs.Collections.{Every}
 use Rattle.scattering.specs.Series.{Key, Sum, coef}
@@ -15,11 +14,10 @@ use Rattle.trunc_series.proofs.Coefficients.{keepable-coef}
 use Rattle.trunc_series.proofs.Kept.{keepable-kept, kept-mul_left}
 use Rattle.trunc_series.proofs.TermLists.{keepable-values}
 use Rattle.degree_theory.specs.Parts.{scaled}
-use Rattle.power_tables.specs.Kept.{AreKeepable, numbers_of}
+use Rattle.power_tables.specs.Kept.{AreKeepable}
 use Rattle.power_tables.specs.Tables.{factor, column_sum, column_combination}
 use Rattle.power_tables.specs.Rows.{AddsScaled, AreCombined}
 use Rattle.power_tables.proofs.ColumnLists.{zeros-values, zeros-coef, length-zeros, every-get}
-use Rattle.power_tables.proofs.LinearParts.{length-map}
 use Rattle.power_tables.proofs.Powers.{length-take, every-take}
 use Rattle.power_tables.proofs.Combinations.{coef-scaled, scaled-keepable, factor-keepable}
 use Rattle.power_tables.proofs.ScaledColumns.{column-keepable, joined}
@@ -67,22 +65,12 @@ module _ (rule : Arithmetic) (n : ℤ) (keys : List CodeKey) where
       }
 
 -- one higher column more
-pub higher-next : (rule : Arithmetic) (n : ℤ) (keys : List CodeKey) (first : List ℤ) (higher : List (Vec ℤ Global)) (r : ℕ) (c : Vec ℤ Global) (f : ℤ) (old new : List ℤ) → r < length higher → AreKeepable rule first → Every (λ v. AreKeepable rule (numbers_of v)) higher
-    → c ≡ get_or higher r c → f ≡ kept rule (factor rule n (r + 2)) → AreCombined rule n (record { keys = keys; columns = first ∷ take r (map numbers_of higher) }) old → AddsScaled rule f (numbers_of c) old new
-    → AreCombined rule n (record { keys = keys; columns = first ∷ take (r + 1) (map numbers_of higher) }) new
+pub higher-next : (rule : Arithmetic) (n : ℤ) (keys : List CodeKey) (first : List ℤ) (higher : List (List ℤ)) (r : ℕ) (c : List ℤ) (f : ℤ) (old new : List ℤ) → r < length higher → AreKeepable rule first → Every (AreKeepable rule) higher
+    → c ≡ get_or higher r c → f ≡ kept rule (factor rule n (r + 2)) → AreCombined rule n (record { keys = keys; columns = first ∷ take r higher }) old → AddsScaled rule f c old new
+    → AreCombined rule n (record { keys = keys; columns = first ∷ take (r + 1) higher }) new
 higher-next rule n keys first higher r c f old new l a h e g old_is s =
-    let m : length (map numbers_of higher) ≡ length higher = length-map numbers_of higher in
-    let t : take (r + 1) (map numbers_of higher) ≡ take r (map numbers_of higher) ++ numbers_of c ∷ [] = take_more (map numbers_of higher) r (numbers_of c) (omega (arith, l, m)) ∙ ap (λ (x : List ℤ). take r (map numbers_of higher) ++ x ∷ []) (get-map higher r c l ∙ ap numbers_of (sym e)) in
-    let z : length (take r (map numbers_of higher)) ≡ r = length-take r (map numbers_of higher) (omega (arith, l, m)) in
+    let t : take (r + 1) higher ≡ take r higher ++ c ∷ [] = take_more higher r c l ∙ ap (λ (x : List ℤ). take r higher ++ x ∷ []) (sym e) in
+    let z : length (take r higher) ≡ r = length-take r higher (omega (arith, l)) in
     subst (λ (cs : List (List ℤ)). AreCombined rule n (record { keys = keys; columns = first ∷ cs }) new) (sym t)
-    (combined-next rule n keys (first ∷ take r (map numbers_of higher)) (numbers_of c) f old new (a, every-take (AreKeepable rule) (map numbers_of higher) r (each higher h)) (subst (λ (v : Vec ℤ Global). AreKeepable rule (numbers_of v)) (sym e) (every-get (λ v. AreKeepable rule (numbers_of v)) higher r c l h))
-    (subst (λ (i : ℕ). f ≡ kept rule (factor rule n i)) (let q : r + 2 ≡ suc (suc (length (take r (map numbers_of higher)))) = omega (arith, z) in q) g) old_is s)
-  where
-    each : (cs : List (Vec ℤ Global)) → Every (λ v. AreKeepable rule (numbers_of v)) cs → Every (AreKeepable rule) (map numbers_of cs)
-    each [] h = tt
-    each (c ∷ cs) h = (h.0, each cs h.1)
-
-    get-map : (cs : List (Vec ℤ Global)) (r : ℕ) (d : Vec ℤ Global) → r < length cs → get_or (map numbers_of cs) r (numbers_of d) ≡ numbers_of (get_or cs r d)
-    get-map [] r d l = absurd (omega (arith, l))
-    get-map (c ∷ cs) zero d l = refl
-    get-map (c ∷ cs) (suc r) d l = get-map cs r d (omega (arith, l))
+    (combined-next rule n keys (first ∷ take r higher) c f old new (a, every-take (AreKeepable rule) higher r h) (subst (AreKeepable rule) (sym e) (every-get (AreKeepable rule) higher r c l h))
+    (subst (λ (i : ℕ). f ≡ kept rule (factor rule n i)) (let q : r + 2 ≡ suc (suc (length (take r higher))) = omega (arith, z) in q) g) old_is s)

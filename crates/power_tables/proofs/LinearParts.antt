@@ -1,5 +1,5 @@
 -- Parts of u alone, made of lists of its terms.
-use Rattle.std.proofs.Common.{◌≡◌, ℕ, suc, ◌+◌, ◌<◌, refl, sym, subst, ap, ◌∙◌, List, [], ◌∷◌, ◌++◌, map, length, take, filter, zip, Bool, true, false, cond, ◌≢◌, arith}
+use Rattle.std.proofs.Common.{◌≡◌, ℕ, suc, ◌+◌, ◌<◌, refl, sym, subst, ap, ◌∙◌, List, [], ◌∷◌, ◌++◌, length, take, filter, zip, Bool, true, false, cond, ◌≢◌, arith}
 use Rattle.std.specs.Prelude.{ℤ, ◌==◌}
 use Rattle.std.proofs.lemmas.List.{take_more, append-nil}
 use Rattle.scattering.specs.Series.{Term, Sum, degree}
@@ -12,10 +12,6 @@ use Rattle.power_tables.specs.Tables.{column_sum}
 use Rattle.power_tables.proofs.ColumnLists.{zip-push}
 use Rattle.power_tables.specs.declared.table.Part.{Part}
 use Rattle.power_tables.specs.Made.{IsLinearPart, ArePartsBy}
-
-pub length-map : {A B : Type 0} (f : A → B) (xs : List A) → length (map f xs) ≡ length xs
-length-map f [] = refl
-length-map f (x ∷ xs) = ap suc (length-map f xs)
 
 -- ---- terms of one degree, picked one after the other
 

@@ -1,9 +1,8 @@
 -- Parts of tables by the lists of terms that they were made of: their columns are the parts of the powers of u.
-use Rattle.std.proofs.Common.{◌≡◌, ℕ, zero, suc, ◌+◌, ◌*◌, ◌<◌, ◌≤◌, ◌/◌, ◌⊎◌, inl, inr, ◌≢◌, refl, sym, subst, ap, ◌∙◌, List, [], ◌∷◌, map, length, take, Vec, arith}
+use Rattle.std.proofs.Common.{◌≡◌, ℕ, zero, suc, ◌+◌, ◌*◌, ◌<◌, ◌≤◌, ◌/◌, ◌⊎◌, inl, inr, ◌≢◌, refl, sym, subst, ap, ◌∙◌, List, [], ◌∷◌, length, take, arith}
 use Rattle.std.specs.Prelude.{ℤ, ◌==◌}
 use Rattle.std.proofs.Math.Decide.{dec_le}
 use Rattle.std.proofs.Math.Nat.{div-eq_of_lt-le}
-use Rattle.std.specs.Global.{Global}
 use Rattle.scattering.specs.Collections.{In, Every}
 use Rattle.scattering.specs.Series.{Key, Term, Sum, degree, coef, one, rest, absolute, pow}
 use Rattle.scattering.specs.ThetaProduct.{of_degree}
@@ -24,13 +23,11 @@ use Rattle.trunc_series.specs.Sums.{AreKeptValues}
 use Rattle.degree_theory.proofs.PartLaws.{part-is-read}
 use Rattle.power_tables.specs.declared.table.Part.{Part}
 use Rattle.power_tables.specs.Parts.{GrowsBy}
-use Rattle.power_tables.specs.Kept.{numbers_of}
 use Rattle.power_tables.specs.Tables.{column_sum}
 use Rattle.power_tables.specs.Made.{TermVec, others, code_others, IsOthers, IsPower, ArePowersFrom, AreLevels, HasLevels, AreListed, HasKey, AreColumnsOf, IsWithinDegrees, IsPowerKey, AreColumns, IsMade, AreMade, IsLinearPart, AreLinearParts}
 use Rattle.power_tables.proofs.Alike.{Alike, alike-refl, alike-pow, reduced-alike}
 use Rattle.power_tables.proofs.LowerOrders.{pow-to}
 use Rattle.power_tables.proofs.Powers.{length-take, levels-length, quotients}
-use Rattle.power_tables.proofs.LinearParts.{length-map}
 use Rattle.power_tables.proofs.Prepared.{absolute-keys}
 
 -- ---- keys
@@ -133,13 +130,12 @@ module _ (rule : Arithmetic) (k m : ℕ) (f : Sum) (al : Alike rule (code_others
       let t = powers-take 1 (i / l) ps h in
       let q = quotients l i k one b in
       let n : length (take (i / l) ps) ≡ i / l = length-take (i / l) ps (omega (arith, q, e)) in
-      let c = columns-length p.keys.items g.lists (p.first.items ∷ map numbers_of p.higher.items) g.has.columns in
+      let c = columns-length p.keys.items g.lists (p.first.items ∷ p.higher.items) g.has.columns in
       let a = levels-length i (take (i / l) ps) g.lists g.levels in
-      let z = length-map numbers_of p.higher.items in
       record {
         keys = keys-made i p.keys.items (take (i / l) ps) g.lists t g.levels g.has.each;
-        columns = columns-made 1 i p.keys.items (take (i / l) ps) g.lists (p.first.items ∷ map numbers_of p.higher.items) b t g.levels g.has.columns;
-        count = omega (arith, n, c, a, z);
+        columns = columns-made 1 i p.keys.items (take (i / l) ps) g.lists (p.first.items ∷ p.higher.items) b t g.levels g.has.columns;
+        count = omega (arith, n, c, a);
         alone = g.has.alone;
       }
 
@@ -171,7 +167,7 @@ module _ (rule : Arithmetic) (k m : ℕ) (f : Sum) (al : Alike rule (code_others
       keys-from P (x ∷ ks) [] n e = absurd (omega (arith, n))
       keys-from P (x ∷ ks) (v ∷ vs) n e = (e.0, keys-from P ks vs (omega (arith, n)) e.1)
 
-      none-made : (cs : List (Vec ℤ Global)) → length cs ≡ 0 → AreColumns rule f 2 i p.keys.items (map numbers_of cs)
+      none-made : (cs : List (List ℤ)) → length cs ≡ 0 → AreColumns rule f 2 i p.keys.items cs
       none-made [] z = tt
       none-made (c ∷ cs) z = absurd (omega (arith, z))
 

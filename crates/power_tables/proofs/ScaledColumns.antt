@@ -2,6 +2,7 @@
 use Rattle.std.proofs.Common.{◌≡◌, ℕ, zero, suc, ◌<◌, ◌≤◌, refl, sym, subst, ap, ◌∙◌, Bool, true, false, cond, List, [], ◌∷◌, length, get_or, set, take, arith}
 use Rattle.std.specs.Prelude.{ℤ, pos, ◌+ℤ◌, ◌*ℤ◌}
 use Rattle.std.proofs.lemmas.Int.{ints}
+use Rattle.std.proofs.lemmas.List.{take_all}
 use Rattle.scattering.specs.Collections.{Every}
 use Rattle.scattering.specs.Series.{Key, coef, key_eq}
 use Rattle.scattering.proofs.Pairing.{coef-append}
@@ -16,8 +17,9 @@ use Rattle.trunc_series.proofs.TermLists.{keepable-values, value-kept}
 use Rattle.degree_theory.specs.Parts.{scaled}
 use Rattle.power_tables.specs.Kept.{AreKeepable}
 use Rattle.power_tables.specs.Tables.{column_sum}
-use Rattle.power_tables.specs.Rows.{AddsScaled}
+use Rattle.power_tables.specs.Rows.{AddsAt, AddsScaled}
 use Rattle.power_tables.proofs.Combinations.{scaled-keepable}
+use Rattle.power_tables.proofs.Powers.{every-take}
 
 module _ (rule : Arithmetic) (c : ℤ) where
   -- as the code adds them
@@ -115,3 +117,23 @@ module _ (rule : Arithmetic) (c : ℤ) where
     lengths = added-length vs xs;
     sums = λ ks n e. (added-values ks vs xs h b e, λ y. added-same ks vs xs h l a b e y ∙ ap (kept rule) (sym (coef-append (scaled c (column_sum ks xs)) (column_sum ks vs) y)));
   }
+
+  -- ---- on the way through a column
+
+  -- what is added of the first of it
+  pub added-so_far : (vs xs cur : List ℤ) (i : ℕ) → cur ≡ added vs (take i xs) → i < length xs → length xs ≤ length vs → i < length cur
+  added-so_far vs xs cur i e h l = let a = ap length e ∙ added-length vs (take i xs) in omega (arith, a, h, l)
+
+  pub so_far-keepable : (vs xs cur : List ℤ) (i : ℕ) → cur ≡ added vs (take i xs) → IsKeepable rule c → AreKeepable rule vs → AreKeepable rule xs → AreKeepable rule cur
+  so_far-keepable vs xs cur i e h a b = subst (AreKeepable rule) (sym e) (added-keepable vs (take i xs) h a (every-take (IsKeepable rule) xs i b))
+
+  -- one number more
+  pub so_far-next : (vs xs cur new : List ℤ) (i n : ℕ) (x : ℤ) → cur ≡ added vs (take i xs) → x ≡ get_or xs i (pos 0) → i < length xs → length xs ≤ length vs → suc i ≡ n → AddsAt rule c x i cur new → new ≡ added vs (take n xs)
+  so_far-next vs xs cur new i n x e q h l m s =
+      s ∙ ap (λ (us : List ℤ). set us i (kept rule (get_or us i (pos 0) +ℤ kept rule (c *ℤ x)))) e
+      ∙ ap (λ (y : ℤ). set (added vs (take i xs)) i (kept rule (get_or (added vs (take i xs)) i (pos 0) +ℤ kept rule (c *ℤ y)))) q
+      ∙ added-step vs xs i n (pos 0) (pos 0) h l m
+
+  -- all of it
+  pub all-added : (vs xs cur : List ℤ) (i : ℕ) → cur ≡ added vs (take i xs) → length xs ≤ i → IsKeepable rule c → length xs ≤ length vs → AreKeepable rule vs → AreKeepable rule xs → AddsScaled rule c xs vs cur
+  all-added vs xs cur i e m h l a b = subst (λ (us : List ℤ). AddsScaled rule c xs vs us) (sym (e ∙ ap (added vs) (take_all i xs m))) (adds-scaled vs xs h l a b)

@@ -1,7 +1,6 @@
 -- Tables made of parts of powers: what they say of a wall's function.
-use Rattle.std.proofs.Common.{◌≡◌, ℕ, zero, suc, ◌+◌, ◌-◌, ◌*◌, ◌<◌, ◌≤◌, ◌/◌, ◌^◌, ◌⊎◌, inl, inr, refl, sym, subst, ap, ◌∙◌, List, [], ◌∷◌, map, length, slice_index_or, Vec, arith}
+use Rattle.std.proofs.Common.{◌≡◌, ℕ, zero, suc, ◌+◌, ◌-◌, ◌*◌, ◌<◌, ◌≤◌, ◌/◌, ◌^◌, ◌⊎◌, inl, inr, refl, sym, subst, ap, ◌∙◌, List, [], ◌∷◌, map, length, slice_index_or, arith}
 use Rattle.std.specs.Prelude.{ℤ, pos, ◌*ℤ◌, ◌-ℤ◌, nat_abs}
-use Rattle.std.specs.Global.{Global}
 use Rattle.std.proofs.lemmas.Int.{ints}
 use Rattle.std.proofs.Math.Nat.{div-le_self, div-mul-le_self}
 use Rattle.scattering.proofs.Lists.{Every-filter}
@@ -24,11 +23,10 @@ use Rattle.degree_theory.proofs.Binomials.{row-is-products, choose-zero}
 use Rattle.degree_theory.proofs.PartLaws.{part-is-read}
 use Rattle.power_tables.specs.declared.table.Part.{Part}
 use Rattle.power_tables.specs.Parts.{IsPartOf, GrowsBy, multiplier}
-use Rattle.power_tables.specs.Kept.{numbers_of, seen_part, AreKeepable, IsSoundPart, IsSound}
+use Rattle.power_tables.specs.Kept.{seen_part, AreKeepable, IsSoundPart, IsSound}
 use Rattle.power_tables.specs.Tables.{SeenPart, SeenTable, part_at, factor, first_factor, column_sum, column_combination, IsTableOf}
 use Rattle.power_tables.specs.Made.{others, code_others, IsPowerKey, AreColumns, IsMade, AreMade}
 use Rattle.power_tables.proofs.Combinations.{combined-same, coef-scaled}
-use Rattle.power_tables.proofs.LinearParts.{length-map}
 
 -- ---- what every table keeps
 
@@ -37,11 +35,11 @@ sound-column rule ks [] l h = tt
 sound-column rule [] (y ∷ c) l h = absurd (omega (arith, l))
 sound-column rule (k ∷ ks) (y ∷ c) l h = (h.0.1, sound-column rule ks c (omega (arith, l)) h.1)
 
-sound-higher : (rule : Arithmetic) (f : Sum) (r i : ℕ) (ks : List CodeKey) (cs : List (Vec ℤ Global)) → AreColumns rule f r i ks (map numbers_of cs) → Every (λ c. AreKeepable rule (numbers_of c)) cs × Every (λ c. length (numbers_of c) ≤ length ks) cs
+sound-higher : (rule : Arithmetic) (f : Sum) (r i : ℕ) (ks : List CodeKey) (cs : List (List ℤ)) → AreColumns rule f r i ks cs → Every (AreKeepable rule) cs × Every (λ c. length c ≤ length ks) cs
 sound-higher rule f r i ks [] h = (tt, tt)
 sound-higher rule f r i ks (c ∷ cs) h =
     let g = sound-higher rule f (suc r) i ks cs h.1 in
-    ((sound-column rule ks (numbers_of c) h.0.within h.0.values, g.0), (h.0.within, g.1))
+    ((sound-column rule ks c h.0.within h.0.values, g.0), (h.0.within, g.1))
 
 sound-part : (rule : Arithmetic) (f : Sum) (l i : ℕ) (p : Part) → i ≤ 24 → IsMade rule f l i p → IsSoundPart rule p
 sound-part rule f l i p b h =
@@ -162,7 +160,7 @@ module _ (rule : Arithmetic) (k m l : ℕ) (d : Exp) (f : Sum) (w : IsWallFuncti
   near-key i x b h = let g = h.within (2 ^ 16) near in let p = g.0 in let q = g.1 in (omega (arith, p, b, high), omega (arith, q, b, high))
 
   part-law : (n : ℤ) (i : ℕ) (p : Part) (vs : List ℤ) → l ≤ i → i ≤ k → IsMade rule f l i p → AreKeptValues rule (column_sum p.keys.items vs)
-      → ((x : Key) → kept rule (coef (column_sum p.keys.items vs) x) ≡ kept rule (coef (column_combination rule n p.keys.items 1 (p.first.items ∷ map numbers_of p.higher.items)) x))
+      → ((x : Key) → kept rule (coef (column_sum p.keys.items vs) x) ≡ kept rule (coef (column_combination rule n p.keys.items 1 (p.first.items ∷ p.higher.items)) x))
       → IsPartOf rule i (column_sum p.keys.items vs) (multiplier rule i f n)
   part-law n i p vs a b h v s = record {
     values = v;
@@ -170,7 +168,7 @@ module _ (rule : Arithmetic) (k m l : ℕ) (d : Exp) (f : Sum) (w : IsWallFuncti
     keepable = multiplier-keepable rule i f n;
     same = λ x q.
         s x
-        ∙ combined-same rule m d f w positive whole l one least_others n i p.keys.items (p.first.items ∷ map numbers_of p.higher.items) (omega (arith, a, one)) (let c = h.count in let z = length-map numbers_of p.higher.items in omega (arith, c, z)) h.columns x
+        ∙ combined-same rule m d f w positive whole l one least_others n i p.keys.items (p.first.items ∷ p.higher.items) (omega (arith, a, one)) (let c = h.count in omega (arith, c)) h.columns x
         ∙ ap (kept rule) ((part-is-read i (multiplier rule i f n) x).0 q);
   }
 
@@ -179,15 +177,15 @@ module _ (rule : Arithmetic) (k m l : ℕ) (d : Exp) (f : Sum) (w : IsWallFuncti
   linear-law i p a b h z n x q =
       ap (λ y. kept rule (y *ℤ coef (column_sum p.keys.items p.first.items) x)) (sym (first-is rule n))
       ∙ ap (kept rule) (sym (coef-scaled (factor rule n 1) (column_sum p.keys.items p.first.items) x) ∙ sym (alone-column p.higher.items z))
-      ∙ combined-same rule m d f w positive whole l one least_others n i p.keys.items (p.first.items ∷ map numbers_of p.higher.items) (omega (arith, a, one)) (let c = h.count in let e = length-map numbers_of p.higher.items in omega (arith, c, e)) h.columns x
+      ∙ combined-same rule m d f w positive whole l one least_others n i p.keys.items (p.first.items ∷ p.higher.items) (omega (arith, a, one)) (let c = h.count in omega (arith, c)) h.columns x
       ∙ ap (kept rule) ((part-is-read i (multiplier rule i f n) x).0 q)
     where
-      alone-column : (cs : List (Vec ℤ Global)) → length cs ≡ 0 → coef (column_combination rule n p.keys.items 1 (p.first.items ∷ map numbers_of cs)) x ≡ coef (scaled (factor rule n 1) (column_sum p.keys.items p.first.items)) x
+      alone-column : (cs : List (List ℤ)) → length cs ≡ 0 → coef (column_combination rule n p.keys.items 1 (p.first.items ∷ cs)) x ≡ coef (scaled (factor rule n 1) (column_sum p.keys.items p.first.items)) x
       alone-column [] e = coef-append (scaled (factor rule n 1) (column_sum p.keys.items p.first.items)) [] x ∙ add-zero (coef (scaled (factor rule n 1) (column_sum p.keys.items p.first.items)) x)
       alone-column (c ∷ cs) e = absurd (omega (arith, e))
 
-  higher-none : (p : Part) → length (p.first.items ∷ map numbers_of p.higher.items) ≤ 1 → length p.higher.items ≡ 0
-  higher-none p u = let e = length-map numbers_of p.higher.items in omega (arith, u, e)
+  higher-none : (p : Part) → length (p.first.items ∷ p.higher.items) ≤ 1 → length p.higher.items ≡ 0
+  higher-none p u = omega (arith, u)
 
   pub table-law : IsTableOf rule k f table
   table-law = record {

@@ -1,5 +1,5 @@
 -- What a table keeps, as contracts see it, and what holds of every table.
-use Rattle.std.specs.Prelude.{◌≡◌, ℕ, ◌+◌, ◌-◌, ◌*◌, ◌<◌, ◌≤◌, List, ◌∷◌, map, length, Vec, ℤ}
+use Rattle.std.specs.Prelude.{◌≡◌, ℕ, ◌+◌, ◌-◌, ◌*◌, ◌<◌, ◌≤◌, List, ◌∷◌, length, Vec, ℤ}
 use Rattle.std.specs.Global.{Global}
 use Rattle.limits.specs.Limits.{highest_order}
 use Rattle.scattering.specs.Collections.{Every}
@@ -13,7 +13,7 @@ abbrev pub numbers_of : Vec ℤ Global → List ℤ
 numbers_of column = column.items
 
 abbrev pub seen_part : Part → SeenPart
-seen_part p = record { keys = p.keys.items; columns = p.first.items ∷ map numbers_of p.higher.items }
+seen_part p = record { keys = p.keys.items; columns = p.first.items ∷ p.higher.items }
 
 -- numbers that may be kept by a rule
 abbrev pub AreKeepable : Arithmetic → List ℤ → Type 0
@@ -23,8 +23,8 @@ AreKeepable rule cs = Every (λ c. IsKeepable rule c) cs
 pub record IsSoundPart (rule : Arithmetic) (p : Part) : Type 0 where
   pub first : AreKeepable rule p.first.items
   pub within : length p.first.items ≤ length p.keys.items
-  pub higher : Every (λ c. AreKeepable rule (numbers_of c)) p.higher.items
-  pub lengths : Every (λ c. length (numbers_of c) ≤ length p.keys.items) p.higher.items
+  pub higher : Every (AreKeepable rule) p.higher.items
+  pub lengths : Every (λ c. length c ≤ length p.keys.items) p.higher.items
   pub count : length p.higher.items < highest_order
 
 pub record IsSound (rule : Arithmetic) (order least : ℕ) (parts : List Part) : Type 0 where

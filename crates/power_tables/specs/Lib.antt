@@ -1,4 +1,5 @@
 pub mod Binomials
+pub mod Columns
 pub mod Entries
 pub mod Kept
 pub mod Made

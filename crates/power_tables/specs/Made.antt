@@ -20,7 +20,6 @@ use Rattle.trunc_series.specs.Shown.{IsValid, key_of, term_of, sum_of}
 use Rattle.trunc_series.specs.Sums.{AreKeptValues, StandsFor}
 use Rattle.power_tables.specs.declared.table.Part.{Part}
 use Rattle.power_tables.specs.Parts.{GrowsBy}
-use Rattle.power_tables.specs.Kept.{numbers_of}
 use Rattle.power_tables.specs.Tables.{column_sum}
 
 abbrev pub TermVec : Type 0
@@ -86,7 +85,7 @@ AreColumns rule f r i keys (c ∷ cs) = IsColumn rule f r i keys c × AreColumns
 
 pub record IsMade (rule : Arithmetic) (f : Sum) (l i : ℕ) (p : Part) : Type 0 where
   pub keys : Every (λ k. IsPowerKey f i (key_of k)) p.keys.items
-  pub columns : AreColumns rule f 1 i p.keys.items (p.first.items ∷ map numbers_of p.higher.items)
+  pub columns : AreColumns rule f 1 i p.keys.items (p.first.items ∷ p.higher.items)
   pub count : suc (length p.higher.items) ≡ i / l
   pub alone : length p.higher.items ≡ 0 → length p.first.items ≡ length p.keys.items
 
@@ -133,7 +132,7 @@ HasKey k (p ∷ ps) = In k (map (λ t. t.0) (sum_of p.items)) ⊎ HasKey k ps
 -- the part has the keys of these lists and their columns
 pub record HasLists (rule : Arithmetic) (ps : List TermVec) (part : Part) : Type 0 where
   pub each : Every (λ k. HasKey (key_of k) ps) part.keys.items
-  pub columns : AreColumnsOf rule part.keys.items ps (part.first.items ∷ map numbers_of part.higher.items)
+  pub columns : AreColumnsOf rule part.keys.items ps (part.first.items ∷ part.higher.items)
   pub alone : length part.higher.items ≡ 0 → length part.first.items ≡ length part.keys.items
 
 -- the part for the terms of degree i of these lists

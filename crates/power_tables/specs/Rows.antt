@@ -3,7 +3,7 @@
 --     IsBinomialRow family m row           the row has the first of the m-th numbers of the family, as they are kept
 --     HasFactors rule n row        it has those of the power with the exponent n
 --     AreCombined rule n part vs   vs are the coefficients at the keys of the part of that power
-use Rattle.std.specs.Prelude.{◌≡◌, ℕ, suc, ◌<◌, List, [], ◌∷◌, ◌++◌, ℤ, pos, neg_ℤ, length, slice_index_or, Vec}
+use Rattle.std.specs.Prelude.{◌≡◌, ℕ, suc, ◌<◌, List, [], ◌∷◌, ◌++◌, ℤ, pos, neg_ℤ, ◌+ℤ◌, ◌*ℤ◌, length, slice_index_or, slice_set, Vec}
 use Rattle.std.specs.Global.{Global}
 use Rattle.scattering.specs.Series.{Key, coef}
 use Rattle.trunc_series.specs.declared.arithmetic.Arithmetic.{Arithmetic}
@@ -49,6 +49,10 @@ pub record AreCombined (rule : Arithmetic) (n : ℤ) (part : SeenPart) (vs : Lis
   pub lengths : length vs ≡ length part.keys
   pub values : AreKeptValues rule (column_sum part.keys vs)
   pub same : (x : Key) → kept rule (coef (column_sum part.keys vs) x) ≡ kept rule (coef (column_combination rule n part.keys 1 part.columns) x)
+
+-- c·x more at a place
+abbrev pub AddsAt : Arithmetic → ℤ → ℤ → ℕ → List ℤ → List ℤ → Type 0
+AddsAt rule c x i old new = new ≡ slice_set old i (kept rule (slice_index_or old i (pos 0) +ℤ kept rule (c *ℤ x)))
 
 -- c times a column more, at the first of any keys
 pub record AddsScaled (rule : Arithmetic) (c : ℤ) (column old new : List ℤ) : Type 0 where

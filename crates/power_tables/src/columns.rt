@@ -8,6 +8,7 @@ ghost use Rattle.trunc_series.specs.Sums.{AreKeptValues, IsKeptValue};
 ghost use Rattle.power_tables.specs.Tables.{column_sum};
 ghost use Rattle.power_tables.specs.Made.{GetsAt, GetsColumn, HasLists};
 
+use crate::column::Column;
 use crate::table::Part;
 use std::alloc::{AllocError, Global};
 use trunc_series::Key;
@@ -47,7 +48,8 @@ fn add_at(
         column[at] = sum(rule, &column[at], &t.1);
         return Ok(());
     }
-    found.add(rule, &t.0, 0)?;
+    // 1, since terms of coefficient 0 may be dropped, and then places change
+    found.add(rule, &t.0, 1)?;
     keys.push(t.0)?;
     column.push(t.1)?;
     Ok(())
@@ -96,12 +98,14 @@ pub fn part_of(
 {
     found.clear();
     let mut keys = Vec::new(alloc);
-    let first = column_of(alloc, rule, &mut keys, found, lists[0].as_slice())?;
+    let mut first = column_of(alloc, rule, &mut keys, found, lists[0].as_slice())?;
+    first.shrink_to_fit();
     let mut higher = Vec::new(alloc);
     for r in 1..lists.len() {
         let column = column_of(alloc, rule, &mut keys, found, lists[r].as_slice())?;
-        higher.push(column)?;
+        higher.push(Column::new(alloc, column)?)?;
     }
+    keys.shrink_to_fit();
     Ok(Part {
         keys,
         first,

@@ -6,24 +6,10 @@ ghost use Rattle.power_tables.specs.Kept.{AreKeepable, IsSoundPart, seen_part};
 ghost use Rattle.power_tables.specs.Rows.{AddsScaled, HasFactors, AreCombined};
 
 use crate::rows::WIDTH;
+use crate::scaling::add_scaled;
 use crate::table::Part;
 use std::alloc::AllocError;
-use trunc_series::sorted_terms::{Arithmetic, product, sum};
-
-/// Adds a number times a column to the first of the values.
-fn add_scaled(rule: Arithmetic, values: &mut Vec<i128>, c: &i128, column: &[i128])
-    requires factor { IsKeepable rule c.now }
-    requires column { AreKeepable rule column.now }
-    requires values { AreKeepable rule values.old.items }
-    requires lengths { length column.now ≤ length values.old.items }
-    ensures added { AddsScaled rule c.now column.now values.old.items values.new.items }
-    ensures keepable { AreKeepable rule values.new.items }
-{
-    for i in 0..column.len() {
-        let more = product(rule, c, &column[i]);
-        values[i] = sum(rule, &values[i], &more);
-    }
-}
+use trunc_series::sorted_terms::Arithmetic;
 
 /// Makes so many zeros of the values.
 fn reset(values: &mut Vec<i128>, count: usize) -> Result<(), AllocError>
@@ -50,7 +36,7 @@ pub fn combine(
     reset(values, part.keys.len())?;
     add_scaled(rule, values, &row[1], part.first.as_slice());
     for r in 0..part.higher.len() {
-        add_scaled(rule, values, &row[r + 2], part.higher[r].as_slice());
+        part.higher[r].add_to(rule, &row[r + 2], values);
     }
     Ok(())
 }

@@ -4,10 +4,12 @@
 //! sign. A table keeps, for each key of degree i, the coefficients at it of u, u^2 and so on.
 #![tactic(auto)]
 
+mod column;
 mod columns;
 mod combining;
 mod making;
 mod rows;
+mod scaling;
 mod table;
 mod values;
 

@@ -60,6 +60,8 @@ fn linear_part(alloc: Global, degree: u32, u: &[(Key, i128)]) -> Result<Part, Al
             first.push(u[i].1)?;
         }
     }
+    keys.shrink_to_fit();
+    first.shrink_to_fit();
     let higher = Vec::new(alloc);
     Ok(Part {
         keys,

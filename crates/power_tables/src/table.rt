@@ -8,6 +8,7 @@ ghost use Rattle.scattering.specs.Series.{Exp, IsWallFunction};
 ghost use Rattle.trunc_series.specs.Shown.{HasNearTerms};
 ghost use Rattle.power_tables.specs.Tables.{IsTableOf, IsLinear, keys_at, numbers_at};
 
+use crate::column::Column;
 use crate::making::{least_degree, made_parts, others_of};
 use std::alloc::{AllocError, Global};
 use std::marker::Model;
@@ -19,7 +20,7 @@ use trunc_series::{Key, Series};
 pub struct Part {
     pub keys: Vec<Key>,
     pub first: Vec<i128>,
-    pub higher: Vec<Vec<i128>>,
+    pub higher: Vec<Column>,
 }
 
 /// The powers of a wall's function f to an order: those of u = f - 1, or of |f| - 1 where numbers saturate.

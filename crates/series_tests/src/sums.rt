@@ -86,7 +86,7 @@ fn monomial(i: u8) -> Key {
 fn twice_each(alloc: Global) -> Result<TermSum, AllocError> {
     let mut sum = TermSum::new(alloc);
     for i in 0..200 {
-        sum.add(Arithmetic::Wrapping, &monomial(i), i128::from(i))?;
+        sum.add(Arithmetic::Wrapping, &monomial(i), i128::from(i) + 1)?;
     }
     for i in 0..200 {
         sum.add(Arithmetic::Wrapping, &monomial(i), 1)?;
@@ -97,7 +97,7 @@ fn twice_each(alloc: Global) -> Result<TermSum, AllocError> {
 fn are_once_each(terms: &[(Key, i128)]) -> bool {
     let rows = terms.iter().zip(0..200u8);
     for (t, i) in rows {
-        if t.0 != monomial(i) || t.1 != i128::from(i) + 1 {
+        if t.0 != monomial(i) || t.1 != i128::from(i) + 2 {
             return false;
         }
     }
@@ -109,5 +109,23 @@ fn are_once_each(terms: &[(Key, i128)]) -> bool {
 fn keys_stand_once(rt: HostRuntime) -> Result<(), Fail> {
     let sum = twice_each(rt.alloc())?;
     assert!(rt; are_once_each(sum.terms()));
+    Ok(())
+}
+
+// 200 monomials, each with its opposite.
+fn cancelled(alloc: Global) -> Result<TermSum, AllocError> {
+    let mut sum = TermSum::new(alloc);
+    for i in 0..200 {
+        sum.add(Arithmetic::Wrapping, &monomial(i), 1)?;
+        sum.add(Arithmetic::Wrapping, &monomial(i), -1)?;
+    }
+    Ok(sum)
+}
+
+// Terms that have become 0 don't pile up.
+#[test]
+fn zeros_are_dropped(rt: HostRuntime) -> Result<(), Fail> {
+    let sum = cancelled(rt.alloc())?;
+    assert!(rt; sum.terms().len() <= 16);
     Ok(())
 }

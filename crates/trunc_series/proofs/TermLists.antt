@@ -1,11 +1,12 @@
 -- Lists of terms for a sum: one term changed, one more at the end, and the products of a row one after the other.
 use Rattle.std.proofs.Common.{◌≡◌, ℕ, ◌+◌, ◌<◌, ◌≤◌, ◌⊎◌, inl, inr, refl, sym, subst, ap, ◌∙◌, Bool, true, false, cond, List, [], ◌∷◌, ◌++◌, map, length, get_or, set, take, zip, arith, zero, suc}
-use Rattle.std.specs.Prelude.{ℤ, pos, ◌+ℤ◌, ◌*ℤ◌}
+use Rattle.std.specs.Prelude.{ℤ, pos, ◌+ℤ◌, ◌*ℤ◌, not, filter}
 use Rattle.std.proofs.lemmas.Int.{ints}
 use Rattle.std.proofs.lemmas.List.{take_more}
 use Rattle.std.proofs.lemmas.Slice.Zip.{length-zip, get_or-zip}
 use Rattle.scattering.specs.Collections.{In, Every}
-use Rattle.scattering.specs.Series.{Key, Term, Sum, degree, key_eq, key_mul, term_mul, coef, coef_at}
+use Rattle.scattering.specs.Series.{Key, Term, Sum, degree, int_eq, key_eq, key_mul, term_mul, coef, coef_at}
+use Rattle.scattering.proofs.Keys.{int_eq-same}
 use Rattle.scattering.proofs.Lists.{Every-implies, Every-append, Every-left, Every-right, Every-from_In, Every-at, In-map, In-mapped, map-append}
 use Rattle.scattering.proofs.Pairing.{skip-zero, coef-append}
 use Rattle.trunc_series.specs.declared.key.Key.{Key as CodeKey}
@@ -16,6 +17,7 @@ use Rattle.trunc_series.specs.Reduced.{Terms, IsNearKey}
 use Rattle.trunc_series.proofs.Coefficients.{keepable-at, keepable-coef}
 use Rattle.trunc_series.proofs.Kept.{keepable-add, keepable-mul, keepable-kept, kept-kept, kept-add_left, kept-same_left, kept-same_right}
 use Rattle.trunc_series.proofs.Terms.{no_term, at, sum_of-append, Every-at as Every-at_place}
+use Rattle.trunc_series.specs.Found.{counts, StandsForOld}
 use Rattle.trunc_series.specs.Sums.{IsKeptValue, AreKeptValues, StandsFor, CanMultiply}
 
 -- ---- values and keys
@@ -179,6 +181,38 @@ stands-trans rule f f' g x s s' =
 
     moved : (y : Key) → In y (map (λ u. u.0) (x ++ f)) → In y (map (λ u. u.0) (x ++ g))
     moved y i = over y x i
+
+-- ---- terms without those of coefficient 0
+
+counted-every : (P : Term → Type 0) (ts : Terms) → Every P (sum_of ts) → Every P (sum_of (filter counts ts))
+counted-every P [] h = tt
+counted-every P (t ∷ ts) h = go (counts t) (counted-every P ts h.1)
+  where
+    go : (b : Bool) → Every P (sum_of (filter counts ts)) → Every P (sum_of (cond b (t ∷ filter counts ts) (filter counts ts)))
+    go true e = (h.0, e)
+    go false e = e
+
+nothing-at : (b : Bool) (c d : ℤ) → c ≡ pos 0 → d ≡ cond b c (pos 0) +ℤ d
+nothing-at true c d e = rw e (sym (skip-zero d))
+nothing-at false c d e = sym (skip-zero d)
+
+counted-coef : (ts : Terms) (k : Key) → coef (sum_of (filter counts ts)) k ≡ coef (sum_of ts) k
+counted-coef [] k = refl
+counted-coef (t ∷ ts) k = go (int_eq t.1 (pos 0)) refl (counted-coef ts k)
+  where
+    go : (b : Bool) → int_eq t.1 (pos 0) ≡ b → coef (sum_of (filter counts ts)) k ≡ coef (sum_of ts) k
+        → coef (sum_of (cond (not b) (t ∷ filter counts ts) (filter counts ts))) k ≡ coef_at k (term_of t) +ℤ coef (sum_of ts) k
+    go true e h = h ∙ nothing-at (key_eq (key_of t.0) k) t.1 (coef (sum_of ts) k) (int_eq-same t.1 (pos 0) e)
+    go false e h = ap (λ x. coef_at k (term_of t) +ℤ x) h
+
+-- the others stand for all
+pub stands-counted : (ts : Terms) → StandsForOld ts (filter counts ts)
+stands-counted ts = λ rule h. record {
+  values = counted-every (λ t. IsKeptValue rule t.1) ts h;
+  keepable = keepable-values rule (sum_of ts) h;
+  same = λ k. ap (kept rule) (counted-coef ts k);
+  keys = counted-every (λ t. In t.0 (map (λ u. u.0) (sum_of ts))) ts (own-keys (sum_of ts));
+}
 
 -- ---- a row of products
 

@@ -1,10 +1,11 @@
 -- Places of keys in a list of terms, powers that can be added as one number, and what is added to a list.
-use Rattle.std.specs.Prelude.{◌≡◌, ◌<◌, ◌≤◌, ◌+◌, ℕ, ℤ, List, length, slice_index, slice_index_or, ◌∷◌}
+use Rattle.std.specs.Prelude.{◌≡◌, ◌<◌, ◌≤◌, ◌+◌, ℕ, ℤ, pos, Bool, not, List, length, slice_index, slice_index_or, ◌∷◌}
+use Rattle.scattering.specs.Series.{int_eq}
 use Rattle.trunc_series.specs.declared.key.Key.{Key as CodeKey}
 use Rattle.trunc_series.specs.declared.arithmetic.Arithmetic.{Arithmetic}
 use Rattle.trunc_series.specs.Shown.{key_of, sum_of}
 use Rattle.trunc_series.specs.Reduced.{Terms}
-use Rattle.trunc_series.specs.Sums.{StandsFor, AddsRow}
+use Rattle.trunc_series.specs.Sums.{StandsFor, AddsRow, AreKeptValues}
 
 -- the term at this place has the key, or the place is the number of terms
 abbrev pub IsFound : List (CodeKey × ℤ) → CodeKey → ℕ → Type 0
@@ -21,3 +22,11 @@ GetsTerm rule old new k c = StandsFor rule (sum_of new) ((key_of k, c) ∷ sum_o
 -- and the products of t with a row
 abbrev pub GetsRow : Arithmetic → Terms → Terms → CodeKey × ℤ → List CodeKey → List ℤ → Type 0
 GetsRow rule old new t keys values = AddsRow rule (sum_of old) (sum_of new) t keys values
+
+-- the coefficient is other than 0
+abbrev pub counts : CodeKey × ℤ → Bool
+counts t = not (int_eq t.1 (pos 0))
+
+-- the new terms stand for the old ones, by whichever rule these are kept
+abbrev pub StandsForOld : Terms → Terms → Type 0
+StandsForOld old new = (rule : Arithmetic) → AreKeptValues rule (sum_of old) → StandsFor rule (sum_of new) (sum_of old)

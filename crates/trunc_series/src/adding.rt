@@ -2,13 +2,32 @@
 
 ghost use Rattle.std.specs.Prelude.{◌≡◌, OnOk, length, zip};
 ghost use Rattle.trunc_series.specs.Shown.{sum_of};
-ghost use Rattle.trunc_series.specs.Found.{GetsTerm, GetsRow};
+ghost use Rattle.trunc_series.specs.Found.{counts, GetsTerm, GetsRow, StandsForOld};
 ghost use Rattle.trunc_series.specs.Sums.{AreKeptValues, IsKeptValue, CanMultiply};
 
 use crate::arithmetic::{Arithmetic, product, sum};
 use crate::key::{Key, times};
-use crate::places::{find, note_last};
+use crate::places::{find, has_room, note_all, note_last};
 use std::alloc::AllocError;
+
+/// Whether the term's coefficient is other than 0.
+fn counts(term: &(Key, i128)) -> bool
+    ensures { result ≡ counts term.now }
+{
+    term.1 != 0
+}
+
+/// Makes room in the table of places for one term more. Where there is none, the terms with the coefficient 0
+/// are dropped first: in sums that cancel they are most.
+fn make_room(terms: &mut Vec<(Key, i128)>, places: &mut Vec<u32>) -> Result<(), AllocError>
+    ensures { OnOk result (StandsForOld terms.old.items terms.new.items) }
+{
+    if has_room(terms.len(), places.len()) {
+        return Ok(());
+    }
+    terms.retain(|t| counts(t));
+    note_all(terms.as_slice(), places)
+}
 
 /// Adds a term.
 #[inline(always)]
@@ -29,8 +48,10 @@ pub(crate) fn add_term(
         terms[at] = (*key, c);
         return Ok(());
     }
+    make_room(terms, places)?;
     terms.push((*key, c))?;
-    note_last(terms.as_slice(), places)
+    note_last(terms.as_slice(), places);
+    Ok(())
 }
 
 /// Adds a term times a row of terms, whose keys and values are handed in side by side.

@@ -1,5 +1,6 @@
 // The table of places: where in a list of terms a key may stand, by a hash of the key. It is at
-// most a quarter full, and free where a search ends. Nothing is proved of what it holds.
+// most a quarter full, and free where a search ends. Nothing is proved of what it holds. Lists of few terms
+// that were never longer have none.
 
 ghost use Rattle.std.specs.Prelude.{◌≡◌, ◌<◌, ◌≤◌, ℕ, ℤ, length, slice_index_or};
 ghost use Rattle.trunc_series.specs.Found.{IsFound};
@@ -66,19 +67,19 @@ pub(crate) fn find(terms: &[(Key, i128)], places: &[u32], key: &Key) -> usize
     terms.len()
 }
 
-/// Notes the place of the last term, and of all terms in a larger table where a quarter is full.
-pub(crate) fn note_last(terms: &[(Key, i128)], places: &mut Vec<u32>) -> Result<(), AllocError> {
-    if terms.len() <= FEW {
-        return Ok(());
-    }
-    if terms.len() <= places.len() / 4 {
-        note(terms, places, terms.len() - 1);
-        return Ok(());
-    }
+/// Whether the table has room for one term more.
+pub(crate) fn has_room(count: usize, places: usize) -> bool {
+    count < FEW || count < places / 4
+}
+
+/// Notes the places of all terms anew, in a table of twice the size where they fill more than an eighth.
+pub(crate) fn note_all(terms: &[(Key, i128)], places: &mut Vec<u32>) -> Result<(), AllocError> {
     let size = if places.len() < SMALLEST {
         SMALLEST
+    } else if terms.len() <= places.len() / 8 {
+        places.len()
     } else {
-        places.len().saturating_mul(4)
+        places.len().saturating_mul(2)
     };
     places.clear();
     places.resize(size, FREE)?;
@@ -86,6 +87,13 @@ pub(crate) fn note_last(terms: &[(Key, i128)], places: &mut Vec<u32>) -> Result<
         note(terms, places, at);
     }
     Ok(())
+}
+
+/// Notes the place of the last term, where there is a table.
+pub(crate) fn note_last(terms: &[(Key, i128)], places: &mut Vec<u32>) {
+    if places.len() > 0 && terms.len() > 0 {
+        note(terms, places, terms.len() - 1);
+    }
 }
 
 /// Notes the place of a term.

@@ -1,6 +1,7 @@
 // Sums under construction. The terms stand in the order in which their keys came, and a table of places by
 // hash says where a key may stand. No proof rests on that table: a place is taken only if the term there has
-// the key. So it is known what the terms sum to, and not that no key stands twice.
+// the key. So it is known what the terms sum to, and not that no key stands twice. Terms whose coefficients
+// have become 0 are dropped where else the table would grow.
 
 ghost use Rattle.std.specs.Prelude.{◌≡◌, ◌∷◌, [], OnOk, IfOk, length, zip};
 ghost use Rattle.trunc_series.specs.Shown.{key_of, sum_of};
@@ -50,7 +51,7 @@ impl TermSum {
     }
 
     /// The terms, in the order in which their keys came. They sum to what was added; where two have
-    /// the same key, its coefficient is the sum of both.
+    /// the same key, its coefficient is the sum of both. Some with the coefficient 0 may be missing.
     pub fn terms(&self) -> &[(Key, i128)]
         ensures { sum_of result.now ≡ self.now }
     {

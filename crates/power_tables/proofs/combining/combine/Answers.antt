@@ -1,9 +1,7 @@
-use Rattle.std.proofs.Common.{rules, ◌≡◌, ◌+◌, ◌<◌, ◌≤◌, ◌∷◌, [], ℕ, ℤ, List, length, map, replicate, get_or, sym, subst, ap, ◌∙◌, pos, arith}
+use Rattle.std.proofs.Common.{rules, ◌≡◌, ◌+◌, ◌<◌, ◌∷◌, [], ℕ, ℤ, List, length, replicate, get_or, sym, subst, ap, ◌∙◌, pos, arith}
 use Rattle.std.proofs.lemmas.List.{take_all}
-use Rattle.power_tables.specs.Kept.{numbers_of}
 use Rattle.power_tables.specs.Rows.{AreCombined}
 use Rattle.power_tables.proofs.ColumnLists.{length-zeros}
-use Rattle.power_tables.proofs.LinearParts.{length-map}
 use Rattle.power_tables.proofs.CombinedColumns.{combined-none, combined-next, higher-next}
 use Rattle.power_tables.proofs.combining.combine.Goals as goal
 
@@ -25,14 +23,14 @@ loop-r-preserved c =
     let k = c.requires.part.count in
     let l : c.loop-r.r < length c.args.part.now.higher.items = search rules in
     record {
-      lengths = c.add_scaled-in-loop-r.ensures.added.lengths ∙ c.loop-r.invariant.lengths;
-      keepable = c.add_scaled-in-loop-r.ensures.keepable;
-      combined = λ n h. higher-next c.args.rule n c.args.part.now.keys.items c.args.part.now.first.items c.args.part.now.higher.items c.loop-r.r c.index.result.now (get_or c.args.row.now (c.loop-r.r + 2) (pos 0)) c.loop-r.values.items c.add_scaled-in-loop-r.new.values.items l
+      lengths = c.add_to.ensures.added.lengths ∙ c.loop-r.invariant.lengths;
+      keepable = c.add_to.ensures.keepable;
+      combined = λ n h. higher-next c.args.rule n c.args.part.now.keys.items c.args.part.now.first.items c.args.part.now.higher.items c.loop-r.r c.index.result.now (get_or c.args.row.now (c.loop-r.r + 2) (pos 0)) c.loop-r.values.items c.add_to.new.values.items l
           c.requires.part.first c.requires.part.higher c.index.ensures (h.each (c.loop-r.r + 2) (omega (arith, w, k, l))) (c.loop-r.invariant.combined n h)
-          (rw c.as_slice-in-loop-r.ensures.value at c.add_scaled-in-loop-r.ensures.added);
+          c.add_to.ensures.added;
     }
 
 pub returns : goal.returns
 returns c = λ n h.
     subst (λ (cs : List (List ℤ)). AreCombined c.args.rule n (record { keys = c.args.part.now.keys.items; columns = c.args.part.now.first.items ∷ cs }) c.loop-r.values.items)
-    (take_all c.loop-r.r (map numbers_of c.args.part.now.higher.items) (let m = length-map numbers_of c.args.part.now.higher.items in let l : length c.args.part.now.higher.items ≤ c.loop-r.r = search rules in omega (arith, m, l))) (c.loop-r.invariant.combined n h)
+    (take_all c.loop-r.r c.args.part.now.higher.items (search rules)) (c.loop-r.invariant.combined n h)

@@ -1,13 +1,12 @@
-use Rattle.std.proofs.Common.{rules, ◌≡◌, ◌∷◌, ◌++◌, [], ℕ, ◌<◌, length, FitsSigned, to_z, of_z, sym, subst, ◌∙◌, refl, Ok, Err, get_or, set, ℤ, ◌+ℤ◌}
+use Rattle.std.proofs.Common.{rules, ◌≡◌, ◌∷◌, ◌++◌, [], ℕ, ◌<◌, length, FitsSigned, to_z, of_z, sym, subst, ◌∙◌, refl, get_or, set, ℤ, ◌+ℤ◌}
 use Rattle.std.proofs.lemmas.Int.{to_z-of_z}
 use mir.Syntax.{w128}
-use Rattle.std.specs.Prelude.{Result, OnOk}
 use Rattle.trunc_series.specs.declared.key.Key.{Key as CodeKey}
-use Rattle.trunc_series.specs.Shown.{key_of, sum_of}
+use Rattle.trunc_series.specs.Shown.{key_of, term_of, sum_of}
 use Rattle.trunc_series.specs.Arithmetic.{IsKeepable, kept}
 use Rattle.trunc_series.specs.Reduced.{Terms}
 use Rattle.trunc_series.specs.Sums.{StandsFor}
-use Rattle.trunc_series.proofs.TermLists.{value-at, stands-set, stands-pushed}
+use Rattle.trunc_series.proofs.TermLists.{value-at, stands-set, stands-pushed, stands-trans}
 use Rattle.trunc_series.proofs.adding.add_term.Goals as goal
 
 pub sum-c-requires-clause-x : goal.sum-c-requires-clause-x
@@ -32,14 +31,13 @@ returns-then-at-len c =
     subst (λ (y : ℤ). StandsFor rule (sum_of (set items i (c.args.key.now, y))) ((key_of c.args.key.now, c.args.c) ∷ sum_of items)) (sym q)
     (stands-set rule items i d c.args.key.now c.args.c h k c.requires.terms c.requires.value)
 
-on_ok : {A E : Type 0} {P : Type 0} (r : Result A E) → P → OnOk r P
-on_ok (Ok x) p = p
-on_ok (Err e) p = tt
-
 pub returns : goal.returns
 returns c =
+    let rule = c.args.rule in
+    let mid : Terms = c.make_room.new.terms.items in
+    let u : CodeKey × ℤ = (c.args.key.now, c.args.c) in
+    let s : StandsFor c.args.rule (sum_of c.make_room.new.terms.items) (sum_of c.args.terms.now.items) = c.in_ok-make_room.ensures c.args.rule c.requires.terms in
     let m : to_z w128 (of_z w128 c.args.c) ≡ c.args.c = to_z-of_z w128 c.args.c (search rules) in
-    on_ok c.note_last.result
-    (subst (λ (ts : Terms). StandsFor c.args.rule (sum_of ts) ((key_of c.args.key.now, c.args.c) ∷ sum_of c.args.terms.now.items)) (sym c.in_ok-push.ensures.items)
-    (subst (λ (x : ℤ). StandsFor c.args.rule (sum_of (c.args.terms.now.items ++ (c.args.key.now, x) ∷ [])) ((key_of c.args.key.now, c.args.c) ∷ sum_of c.args.terms.now.items)) (sym m)
-    (stands-pushed c.args.rule c.args.terms.now.items (c.args.key.now, c.args.c) c.requires.terms c.requires.value)))
+    subst (λ (ts : Terms). StandsFor c.args.rule (sum_of ts) ((key_of c.args.key.now, c.args.c) ∷ sum_of c.args.terms.now.items)) (sym c.in_ok-push.ensures.items)
+    (subst (λ (x : ℤ). StandsFor c.args.rule (sum_of (c.make_room.new.terms.items ++ (c.args.key.now, x) ∷ [])) ((key_of c.args.key.now, c.args.c) ∷ sum_of c.args.terms.now.items)) (sym m)
+    (stands-trans rule (sum_of mid) (sum_of (mid ++ u ∷ [])) (sum_of c.args.terms.now.items) (term_of u ∷ []) s (stands-pushed rule mid u s.values c.requires.value)))
