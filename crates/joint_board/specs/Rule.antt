@@ -5,11 +5,12 @@
 --     has_late n xs          some number of the list is no task of n
 --     Fits n m js v          the view v, where there are n tasks, m seats were made, and those numbered js were joined
 --     IsBoard n w vs         the rule: of n tasks, the word w and the views vs
-use Rattle.std.specs.Prelude.{◌≡◌, ◌<◌, ◌≤◌, ℕ, ◌+◌, ◌^◌, nat_eq, nat_lt, not, Bool, true, false, cond, List, [], ◌∷◌, ◌++◌, length, count_by, sum_by}
+use Rattle.std.specs.Prelude.{◌≡◌, ◌<◌, ◌≤◌, ℕ, ◌+◌, nat_eq, nat_lt, not, Bool, true, false, cond, List, [], ◌∷◌, ◌++◌, length, count_by, sum_by}
 use Rattle.std.specs.List.{list_any}
 use mathlib.Core.Option.{some}
 use lib.ListN.{get_elem?}
 use Rattle.limits.specs.Limits.{most_workers}
+use Rattle.order_machine.specs.History.{tasks_end}
 use Rattle.atomic_table.specs.Table.{State, Me, Step}
 use Rattle.atomic_table.specs.Seated.{TableId}
 use Rattle.joint_board.specs.declared.view.Size.{Size}
@@ -105,7 +106,7 @@ Apart views = (i j : ℕ) (v u : View) → get_elem? views i ≡ some v → get_
 pub record IsBoard (tasks word : ℕ) (views : List View) : Type 0 where
   pub made : ℕ
   pub joined : List ℕ
-  pub small : tasks < 2 ^ 32
+  pub small : tasks < tasks_end
   pub head_is : (v : View) → get_elem? views 0 ≡ some v → Heads made joined v
   pub made_is : length views ≡ made
   pub few : made ≤ most_workers
@@ -169,6 +170,6 @@ shown_board table size = record { table = table; tasks = size.tasks; workers = s
 pub record IsOpen (table : TableId) (size : Size) (tasks : ℕ) : Type 0 where
   pub one : table.words ≡ 1
   pub tasks_are : size.tasks ≡ tasks
-  pub small : tasks < 2 ^ 32
+  pub small : tasks < tasks_end
   pub some_worker : 1 ≤ size.workers
   pub few : size.workers ≤ most_workers

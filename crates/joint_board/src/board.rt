@@ -1,10 +1,10 @@
 // The board.
 
-ghost use Rattle.std.specs.Prelude.{◌≡◌, ◌<◌, ◌≤◌, ◌^◌, ℕ, true, false, List, All, IfOk, MatchOption, Some};
+ghost use Rattle.std.specs.Prelude.{◌≡◌, ◌<◌, ◌≤◌, ℕ, true, false, List, All, IfOk, MatchOption, Some};
 ghost use Rattle.std.specs.List.{range_with_len};
 ghost use Rattle.limits.specs.Limits.{most_workers};
 ghost use Rattle.order_machine.specs.declared.event.Event.{Event};
-ghost use Rattle.order_machine.specs.History.{draw, may_publish};
+ghost use Rattle.order_machine.specs.History.{draw, may_publish, tasks_end};
 ghost use Rattle.joint_board.specs.Seen.{draws_left, new_seats, seat_numbers, results_of, IsDrawn, AreInOrder};
 ghost use Rattle.joint_board.specs.Machine.{reply_of, AllDrewAs};
 
@@ -44,7 +44,7 @@ impl Board {
         tasks: u64,
         workers: u32,
     ) -> Result<(Board, Vec<BoardSeat>), AllocError>
-        requires tasks { tasks < 2 ^ 32 }
+        requires tasks { tasks < tasks_end }
         requires some { 1 ≤ workers }
         requires few { workers ≤ most_workers }
         ensures board { IfOk result (λ r. (r.0.tasks ≡ tasks) × (r.0.workers ≡ workers)) }

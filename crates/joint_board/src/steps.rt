@@ -1,7 +1,8 @@
 // Single steps at the table.
 
-ghost use Rattle.std.specs.Prelude.{◌≡◌, ◌<◌, ◌^◌, ℕ, [], true, false, IfOk};
+ghost use Rattle.std.specs.Prelude.{◌≡◌, ◌<◌, ℕ, [], true, false, IfOk};
 ghost use Rattle.limits.specs.Limits.{most_workers};
+ghost use Rattle.order_machine.specs.History.{tasks_end};
 ghost use Rattle.joint_board.specs.Rule.{first_view, after_claim, after_split, both_views, fresh_view, times_in, IsAbove, IsViewAt, IsFull, IsFirstView};
 
 use crate::rule::{Another, Back, Claim, Law, Settle};
@@ -13,7 +14,7 @@ pub(crate) type Tally = Table<(), View, Size, Law, Global>;
 
 /// The table with its first seat.
 pub(crate) fn new_table(alloc: Global, size: Size) -> Result<(Tally, Seat<(), View>), AllocError>
-    requires { size.tasks < 2 ^ 32 }
+    requires { size.tasks < tasks_end }
     ensures table { IfOk result
         (λ r. (r.0.shared.table_id.words ≡ 1) × (r.0.shared.key ≡ size)) }
     ensures seat { IfOk result

@@ -3,3 +3,7 @@ pub mod LiveWalls
 pub mod Meetings
 pub mod Sorted
 pub mod ActivePoints
+pub mod StrandWalls
+pub mod FacingStrands
+pub mod NewMeetings
+pub mod RowPoints

@@ -31,6 +31,7 @@ use Rattle.std.proofs.lemmas.List.{take_more}
 use Rattle.joint_finder.specs.declared.live.LiveWall.{LiveWall}
 use Rattle.joint_finder.specs.Live.{Shows, AreLive}
 use Rattle.joint_finder.specs.Crossings.{Meets, AreMeeting}
+use Rattle.joint_finder.specs.Strands.{IsSameUpToSign}
 use Rattle.joint_finder.proofs.Lists.{In-permutation}
 
 pub support-dir : (w : Wall) (s : Support) → IsSupportOf w s → (support_dir s ≡ w.dir) ⊎ (support_dir s ≡ opposite w.dir)
@@ -116,9 +117,6 @@ term-live w t i = any-true (λ (t : Term). true) (rest w.function) t i refl
 
 -- ---- directions, up to their signs
 
-abbrev IsAlong : Exp → Exp → Type 0
-IsAlong d e = (d ≡ e) ⊎ (d ≡ opposite e)
-
 first-turned : (d e : Exp) → det (opposite d) e ≡ neg_ℤ (det d e)
 first-turned d e = ring ints_ring (d.a ∷ d.b ∷ e.a ∷ e.b ∷ []) (minus X :* E.var 3 :- minus Y :* Z) (minus (X :* E.var 3 :- Y :* Z)) refl
 
@@ -128,15 +126,15 @@ second-turned d e = ring ints_ring (d.a ∷ d.b ∷ e.a ∷ e.b ∷ []) (X :* mi
 negative-zero : (x y : ℤ) → x ≡ neg_ℤ y → x ≡ pos 0 → y ≡ pos 0
 negative-zero x y e h = omega (arith, ints, e, h)
 
-zero-first : (d d' e : Exp) → IsAlong d d' → det d e ≡ pos 0 → det d' e ≡ pos 0
+pub zero-first : (d d' e : Exp) → IsSameUpToSign d d' → det d e ≡ pos 0 → det d' e ≡ pos 0
 zero-first d d' e (inl q) h = sym (ap (λ (u : Exp). det u e) q) ∙ h
 zero-first d d' e (inr q) h = negative-zero (det d e) (det d' e) (ap (λ (u : Exp). det u e) q ∙ first-turned d' e) h
 
-zero-second : (d e e' : Exp) → IsAlong e e' → det d e ≡ pos 0 → det d e' ≡ pos 0
+zero-second : (d e e' : Exp) → IsSameUpToSign e e' → det d e ≡ pos 0 → det d e' ≡ pos 0
 zero-second d e e' (inl q) h = sym (ap (det d) q) ∙ h
 zero-second d e e' (inr q) h = negative-zero (det d e) (det d e') (ap (det d) q ∙ second-turned d e') h
 
-back : (d e : Exp) → IsAlong d e → IsAlong e d
+pub back : (d e : Exp) → IsSameUpToSign d e → IsSameUpToSign e d
 back d e (inl q) = inl (sym q)
 back d e (inr q) = inr (twice ∙ ap opposite (sym q))
   where
@@ -146,7 +144,7 @@ back d e (inr q) = inr (twice ∙ ap opposite (sym q))
     twice : e ≡ opposite (opposite e)
     twice = λ i. record { a = two e.a i; b = two e.b i }
 
-zero-both : (d d' e e' : Exp) → IsAlong d d' → IsAlong e e' → det d e ≡ pos 0 → det d' e' ≡ pos 0
+pub zero-both : (d d' e e' : Exp) → IsSameUpToSign d d' → IsSameUpToSign e e' → det d e ≡ pos 0 → det d' e' ≡ pos 0
 zero-both d d' e e' p q h = zero-second d' e e' q (zero-first d d' e p h)
 
 -- ---- meetings are active points

@@ -1,5 +1,5 @@
 -- Points where live walls meet, collected.
-use Rattle.std.proofs.Common.{◌≡◌, ℕ, ◌+◌, ◌<◌, ◌≤◌, ◌-◌, refl, sym, ap, subst, ◌∙◌, List, [], ◌∷◌, ◌++◌, length, get_or, take, drop, Bool, true, false, arith, ◌⊎◌, inl, inr}
+use Rattle.std.proofs.Common.{◌≡◌, ◌≢◌, ℕ, ◌+◌, ◌<◌, ◌≤◌, ◌-◌, refl, sym, ap, subst, ◌∙◌, List, [], ◌∷◌, ◌++◌, length, get_or, take, drop, Bool, true, false, arith, ◌⊎◌, inl, inr}
 use Rattle.std.specs.Prelude.{pos, nat_lt}
 use Rattle.std.specs.List.{Contains}
 use Rattle.std.specs.List.Sorted.{IsNonDecreasingBy}
@@ -16,13 +16,14 @@ use Rattle.plane_theory.proofs.CommonPoints.{common-unique}
 use Rattle.plane_geom.specs.declared.Point.{Point as CodePoint}
 use Rattle.plane_geom.specs.declared.Support.{Support}
 use Rattle.plane_geom.specs.declared.Support.TheVariants.{Line, Half}
-use Rattle.plane_geom.specs.Shown.{point_of, support_at, support_dir}
+use Rattle.plane_geom.specs.Shown.{point_of, support_at, support_dir, OnSupport}
 use Rattle.plane_geom.proofs.Meets.{flat, det-back}
 use Rattle.scatter_diagram.specs.declared.stop.Stop.{Stop}
 use Rattle.scatter_diagram.specs.declared.stop.Stop.TheVariants.{At, Memory}
 use Rattle.joint_finder.specs.declared.live.LiveWall.{LiveWall}
 use Rattle.joint_finder.specs.Joints.{points_of}
 use Rattle.joint_finder.specs.Crossings.{Meets, MeetsOne, AreMeeting, Adds, StopsFar, Met}
+use Rattle.joint_finder.specs.Strands.{OfSome}
 use Rattle.joint_finder.proofs.Lists.{in-at, place-of, In-parts, In-take, In-drop, In-get, In-more, In-more_same, In-more_old}
 
 -- ---- two walls
@@ -31,10 +32,14 @@ support-point : (s : Support) → IsPoint (support_at s)
 support-point (Line p d) = p.reduced
 support-point (Half p d) = p.reduced
 
+-- supports that aren't parallel have one common point at most
+pub one-point : (s t : Support) (p q : Point) → IsPoint p → IsPoint q → det (support_dir s) (support_dir t) ≢ pos 0 → OnSupport s p → OnSupport t p → OnSupport s q → OnSupport t q → p ≡ q
+one-point s t p q i j n a b c d =
+    common-unique (support_at s) (support_dir s) (support_at t) (support_dir t) p q (support-point s) (support-point t) n (record { point = i; first = flat s p i.below a; second = flat t p i.below b })
+    (record { point = j; first = flat s q j.below c; second = flat t q j.below d })
+
 pub one-meeting : (n : ℕ) (l m : LiveWall) (p q : Point) → IsPoint p → IsPoint q → Meets n l m p → Meets n l m q → p ≡ q
-one-meeting n l m p q i j h k =
-    common-unique (support_at l.support) (support_dir l.support) (support_at m.support) (support_dir m.support) p q (support-point l.support) (support-point m.support) h.crossing
-    (record { point = i; first = flat l.support p i.below h.first; second = flat m.support p i.below h.second }) (record { point = j; first = flat l.support q j.below k.first; second = flat m.support q j.below k.second })
+one-meeting n l m p q i j h k = one-point l.support m.support p q i j h.crossing h.first h.second k.first k.second
 
 pub adds-one : (P : Point → Type 0) (old : List CodePoint) (p : CodePoint) → P (point_of p) → ((q : Point) → IsPoint q → P q → q ≡ point_of p) → Adds P old (old ++ p ∷ [])
 adds-one P old p h u = record {
@@ -83,15 +88,16 @@ pub stops-with : (n : ℕ) (P Q : Point → Type 0) (s : Stop) → ((p : Point) 
 stops-with n P Q (At o c) f h = (h.0, h.1, (h.2.0, h.2.1, f h.2.0 h.2.1 h.2.2, h.2.3))
 stops-with n P Q Memory f h = tt
 
--- ---- a wall and later ones
+-- ---- a list, element by element
 
-pub meets-more : (n : ℕ) (l m : LiveWall) (ms : List LiveWall) (i : ℕ) (a b c : List CodePoint) → i < length ms → m ≡ get_or ms i m → Adds (MeetsOne n l (take i ms)) a b → Adds (Meets n l m) b c → Adds (MeetsOne n l (take (i + 1) ms)) a c
-meets-more n l m ms i a b c lt e h k =
-    adds-then (MeetsOne n l (take i ms)) (Meets n l m) (MeetsOne n l (take (i + 1) ms)) a b c (λ p x. (x.0, In-more_old ms i m x.0 lt e x.1, x.2)) (λ p x. (m, In-more_same ms i m lt e, x)) (λ p x. go p x (In-more ms i m x.0 lt e x.1)) h k
+-- one element more
+pub some-more : {A : Type 0} (Q : A → Point → Type 0) (x : A) (xs : List A) (i : ℕ) (a b c : List CodePoint) → i < length xs → x ≡ get_or xs i x → Adds (OfSome Q (take i xs)) a b → Adds (Q x) b c → Adds (OfSome Q (take (i + 1) xs)) a c
+some-more Q x xs i a b c lt e h k =
+    adds-then (OfSome Q (take i xs)) (Q x) (OfSome Q (take (i + 1) xs)) a b c (λ p y. (y.0, In-more_old xs i x y.0 lt e y.1, y.2)) (λ p y. (x, In-more_same xs i x lt e, y)) (λ p y. go p y (In-more xs i x y.0 lt e y.1)) h k
   where
-    go : (p : Point) (x : MeetsOne n l (take (i + 1) ms) p) → In x.0 (take i ms) ⊎ (x.0 ≡ m) → MeetsOne n l (take i ms) p ⊎ Meets n l m p
-    go p x (inl j) = inl (x.0, j, x.2)
-    go p x (inr q) = inr (subst (λ (o : LiveWall). Meets n l o p) q x.2)
+    go : (p : Point) (y : OfSome Q (take (i + 1) xs) p) → In y.0 (take i xs) ⊎ (y.0 ≡ x) → OfSome Q (take i xs) p ⊎ Q x p
+    go p y (inl j) = inl (y.0, j, y.2)
+    go p y (inr q) = inr (subst (λ z. Q z p) q y.2)
 
 -- in walls sorted by least degree, those from a place on have no lower one
 later-degree : (ms : List LiveWall) (i : ℕ) (m x : LiveWall) → IsNonDecreasingBy (λ l. l.degree) ms → i < length ms → m ≡ get_or ms i m → In x (drop i ms) → m.degree ≤ x.degree
@@ -145,10 +151,10 @@ met-more n i ls l a b lt e h k = record { each = λ p j. each p (k.each p j); al
         let same : m ≡ l = q ∙ ap (λ s. get_or ls s m) c ∙ get_or_default ls i m l lt ∙ sym e in
         k.all p r (subst (λ (o : LiveWall). MeetsOne n o (drop (i + 1) ls) p) same (subst (λ (s : ℕ). MeetsOne n m (drop (s + 1) ls) p) c x))
 
-det-self : (d : Exp) → det d d ≡ pos 0
+pub det-self : (d : Exp) → det d d ≡ pos 0
 det-self d = ring ints_ring (d.a ∷ d.b ∷ []) (X :* Y :- Y :* X) nought refl
 
-meets-back : (n : ℕ) (l m : LiveWall) (p : Point) → Meets n l m p → Meets n m l p
+pub meets-back : (n : ℕ) (l m : LiveWall) (p : Point) → Meets n l m p → Meets n m l p
 meets-back n l m p h = record {
   fits = let f = h.fits in omega (arith, f);
   crossing = λ e. h.crossing (let b = det-back (support_dir l.support) (support_dir m.support) in omega (arith, ints, b, e));
@@ -159,13 +165,13 @@ meets-back n l m p h = record {
 apart : (n : ℕ) (l m : LiveWall) (p : Point) → l ≡ m → Meets n l m p → ⊥
 apart n l m p e h = h.crossing (ap (λ (o : LiveWall). det (support_dir l.support) (support_dir o.support)) (sym e) ∙ det-self (support_dir l.support))
 
-after : (ls : List LiveWall) (k j : ℕ) (o : LiveWall) → k < j → j < length ls → get_or ls j o ≡ o → In o (drop (k + 1) ls)
+pub after : {A : Type 0} (ls : List A) (k j : ℕ) (o : A) → k < j → j < length ls → get_or ls j o ≡ o → In o (drop (k + 1) ls)
 after ls k j o h lt e =
     let n = length-drop (k + 1) ls in
     let q : (k + 1) + (j - (k + 1)) ≡ j = omega (arith, h) in
     in-at (drop (k + 1) ls) o (j - (k + 1), omega (arith, n, h, lt), get_or-drop (k + 1) ls (j - (k + 1)) o ∙ ap (λ s. get_or ls s o) q ∙ e)
 
-three : (k j : ℕ) → (k < j) ⊎ ((j < k) ⊎ (k ≡ j))
+pub three : (k j : ℕ) → (k < j) ⊎ ((j < k) ⊎ (k ≡ j))
 three k j = side (nat_lt k j) refl (nat_lt j k) refl
   where
     side : (b : Bool) → nat_lt k j ≡ b → (b' : Bool) → nat_lt j k ≡ b' → (k < j) ⊎ ((j < k) ⊎ (k ≡ j))

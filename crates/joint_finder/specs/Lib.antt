@@ -1,3 +1,4 @@
 pub mod Joints
 pub mod Live
 pub mod Crossings
+pub mod Strands

@@ -22,8 +22,8 @@ pub(crate) fn crossings(alloc: Global, order: u32, live: &[LiveWall]) -> Result<
     Ok(points)
 }
 
-/// Appends the points where a wall meets later ones, which are sorted by least degree.
-fn add_crossings(
+/// Appends the points where a wall meets others, which are sorted by least degree.
+pub(crate) fn add_crossings(
     points: &mut Vec<Point>,
     order: u32,
     wall: &LiveWall,
@@ -71,7 +71,7 @@ fn too_far(order: u32) -> Stop
     }
 }
 
-fn push(points: &mut Vec<Point>, p: Point) -> Result<(), Stop>
+pub(crate) fn push(points: &mut Vec<Point>, p: Point) -> Result<(), Stop>
     ensures points { OnOk result (points.new.items ≡ points.old.items ++ p ∷ []) }
     ensures memory { IfErr result (λ s. s ≡ Stop.Memory) }
 {

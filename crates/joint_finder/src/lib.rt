@@ -4,7 +4,11 @@
 
 mod active;
 mod crossings;
+mod facing;
 mod live;
+mod new_crossings;
 mod order;
+mod rows;
+mod strands;
 
-pub use active::joints;
+pub use active::{joints, joints_from};

@@ -1,6 +1,6 @@
 // The live walls of a diagram, each with its least degree and its support.
 
-ghost use Rattle.std.specs.Prelude.{◌≡◌, ◌≤◌, ◌+◌, ◌↔◌, IsTrue, IfOk, OnOk, MatchOption, false};
+ghost use Rattle.std.specs.Prelude.{◌≡◌, ◌==◌, ◌≤◌, ◌+◌, ◌↔◌, IsTrue, IfOk, OnOk, MatchOption, false, filter};
 ghost use Rattle.std.specs.List.Sorted.{IsNonDecreasingBy};
 ghost use Rattle.scattering.specs.Collections.{Every};
 ghost use Rattle.scattering.specs.ActivePoint.{is_incoming};
@@ -61,4 +61,16 @@ pub(crate) fn fits(u: &LiveWall, v: &LiveWall, order: u32) -> bool
     ensures { IsTrue result ↔ (u.now.degree + v.now.degree ≤ order) }
 {
     u64::from(u.degree) + u64::from(v.degree) <= u64::from(order)
+}
+
+/// The walls of a least degree, in their order.
+pub(crate) fn of_degree(
+    alloc: Global,
+    live: &[LiveWall],
+    degree: u32,
+) -> Result<Vec<LiveWall>, AllocError>
+    ensures { IfOk result (λ r. r.items ≡ filter (λ l. l.degree == degree) live.now) }
+{
+    let some = live.iter().filter(|w| w.degree == degree);
+    some.copied().collect(alloc)
 }

@@ -7,6 +7,8 @@ ghost use Rattle.plane_geom.specs.Shown.{position_order};
 ghost use Rattle.joint_finder.specs.Joints.{same_point};
 
 use plane_geom::Point;
+use rayon::prelude::*;
+use std::thread::Threads;
 
 /// Sorts points by x, then y.
 pub(crate) fn sort(points: &mut Vec<Point>)
@@ -14,6 +16,18 @@ pub(crate) fn sort(points: &mut Vec<Point>)
     ensures sorted { IsSorted position_order points.new.items }
 {
     points.sort_unstable_by(|p, q| p.compare(q));
+}
+
+/// Sorts points by x, then y. The work is split among threads.
+pub(crate) fn sort_by_threads<R: Threads + Sync>(rt: &R, points: &mut Vec<Point>)
+    ensures permutation { IsPermutation points.old.items points.new.items }
+    ensures sorted { IsSorted position_order points.new.items }
+{
+    par_sort_unstable_by(
+        rt,
+        points.as_mut_slice(),
+        |p: &Point, q: &Point| p.compare(q),
+    );
 }
 
 /// Drops each point that equals the one before.

@@ -1,9 +1,10 @@
--- An order has fewer than 2^32 tasks: each is where two walls cross, and two walls that aren't parallel cross once.
-use Rattle.std.proofs.Common.{◌≡◌, ◌≢◌, ◌⊎◌, inl, inr, ℕ, suc, ◌+◌, ◌*◌, ◌<◌, ◌≤◌, ◌^◌, refl, sym, ap, subst, ◌∙◌, List, [], ◌∷◌, length, map, true, false, arith}
+-- An order has fewer tasks than a board may have: each is where two walls cross, and two walls that aren't parallel cross once.
+use Rattle.std.proofs.Common.{◌≡◌, ◌≢◌, ◌⊎◌, inl, inr, ℕ, suc, ◌+◌, ◌*◌, ◌<◌, ◌≤◌, refl, sym, ap, subst, ◌∙◌, List, [], ◌∷◌, length, map, true, false, arith}
 use Rattle.std.specs.Prelude.{IsTrue, ℤ, pos, flat_map}
 use Rattle.std.proofs.Math.Nat.{mul-le-mul_left, mul-le-mul_right}
 use Rattle.std.proofs.lemmas.List.{length-map, length-append}
 use Rattle.limits.specs.Limits.{highest_order, most_walls}
+use Rattle.order_machine.specs.History.{tasks_end}
 use Rattle.scattering.specs.Collections.{In, Every, Distinct}
 use Rattle.scattering.specs.Series.{int_eq, det}
 use Rattle.scattering.specs.Plane.{Point, IsPoint, difference}
@@ -110,7 +111,7 @@ few-active n ws ps at none h = rw (sym (length-pairs ws ws)) (no-more CrossAt cr
         go (inl c) = ((c.u, c.v), In-pairs ws c.u c.v c.u_in c.v_in, record { point = a.0; starts = (Every-at (λ w. IsPoint w.at) ws c.u at c.u_in, Every-at (λ w. IsPoint w.at) ws c.v at c.v_in); across = c.across; first = c.u_on; second = c.v_on })
         go (inr e) = let f = Every-at (λ (w : Wall). is_incoming w.kind ≡ false) ws e.w none e.w_in in let g = e.incoming in absurd (cc)
 
-few-squared : (k : ℕ) → k ≤ most_walls → k * k < 2 ^ 32
+few-squared : (k : ℕ) → k ≤ most_walls → k * k < tasks_end
 few-squared k h = let a = mul-le-mul_left k h in let b = mul-le-mul_right most_walls h in omega (arith, a, b)
 
 -- no wall is a ray that comes in, and each starts at a point
@@ -124,7 +125,7 @@ module _ (c : SeenCompleted) (h : IsCompleted c) where
   none-enter : Every (λ w. is_incoming w.kind ≡ false) (walls c.diagram)
   none-enter = each-wall (λ w. is_incoming w.kind ≡ false) (Every-implies (λ w. w.kind ≡ Line) (λ w. is_incoming w.kind ≡ false) c.initial.lines (λ w e. ap is_incoming e) h.lines) (Every-implies (λ w. w.kind ≡ Outgoing) (λ w. is_incoming w.kind ≡ false) c.diagram.rays (λ w e. ap is_incoming e) h.completes.outgoing)
 
-  pub few-tasks : (ps : List CodePoint) → AreTasks c ps → length ps < 2 ^ 32
+  pub few-tasks : (ps : List CodePoint) → AreTasks c ps → length ps < tasks_end
   few-tasks ps t =
       let l = few-active (c.order + 1) (walls c.diagram) (points_of ps) starts none-enter t in
       let k = few-squared (length (walls c.diagram)) h.few in

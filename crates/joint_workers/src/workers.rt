@@ -1,11 +1,12 @@
 // The workers of one order.
 
-ghost use Rattle.std.specs.Prelude.{◌≡◌, ◌+◌, ◌<◌, ◌≤◌, ◌^◌, ℕ, ◌⊎◌, length, map, All, Contains, Ok, Err, IfOk, IfErr};
+ghost use Rattle.std.specs.Prelude.{◌≡◌, ◌+◌, ◌<◌, ◌≤◌, ℕ, ◌⊎◌, length, map, All, Contains, Ok, Err, IfOk, IfErr};
 ghost use Rattle.limits.specs.Limits.{highest_order, most_workers};
 ghost use Rattle.scattering.specs.Wall.{walls};
 ghost use Rattle.scattering.specs.Completion.{IsConsistent};
 ghost use Rattle.scatter_step.specs.Orders.{AreTasks, AreCorrectionsAt, IsStoppedByPoint};
 ghost use Rattle.scatter_diagram.specs.declared.stop.Stop.TheVariants.{Memory};
+ghost use Rattle.order_machine.specs.History.{tasks_end};
 ghost use Rattle.joint_board.specs.Seen.{new_seat};
 ghost use Rattle.joint_workers.specs.Tasks.{diagram_of, AreAllFound, IsFoundBy};
 
@@ -81,7 +82,7 @@ fn correct_with<R: Threads + Sync, G: Gate>(
     requires order { 1 ≤ tables.now.order }
     requires consistent { (n : ℕ) → n + 1 ≡ tables.now.order →
         IsConsistent n (walls tables.now.diagram.diagram) }
-    requires points { length points.now < 2 ^ 32 }
+    requires points { length points.now < tasks_end }
     requires some { 1 ≤ workers }
     requires few { workers ≤ most_workers }
     ensures corrections { IfOk result

@@ -3,39 +3,28 @@
 ghost use Rattle.std.specs.Prelude.{◌<◌};
 ghost use Rattle.limits.specs.Limits.{highest_order};
 
-use plane_geom::Point;
-use sample_walls::monomials::{
-    ONE, T1T2_XXYY, T1T2T3_XXY, T2_XXY, T2_XYY, T2T3_XY, T3_X, X, XXY, XXYY, XY, XYY, Y,
+use crate::examples::{
+    has_diagonal, has_plain_diagonal, has_rays_of_squares, has_three_rays, squares, three_lines,
+    two_lines,
 };
-use sample_walls::{axes, line, plain_axes, square_axes};
-use scatter_diagram::{Diagram, Initial, Stop, StopCause, Wall, WallKind};
-use scatter_step::{Completed, Outcome, complete_plain};
+use plane_geom::Point;
+use sample_walls::monomials::{ONE, T1T2_XXYY, T2_XXY, T2_XYY, T3_X, X, XY, Y};
+use sample_walls::{axes, line};
+use scatter_diagram::{Diagram, Initial, StopCause, WallKind};
+use scatter_step::{Completed, complete_plain};
 use std::alloc::Global;
 use std::test::Fail;
-use trunc_series::Key;
-
-// Whether the ray starts at (x, y), goes along (a, b) and has the function.
-fn is_ray(ray: &Wall, start: (i64, i64), dir: (i32, i32), terms: &[(Key, i128)]) -> bool {
-    (ray.at.x, ray.at.y, ray.at.w) == (start.0, start.1, 1)
-        && (ray.dir.a, ray.dir.b) == dir
-        && ray.function.terms() == terms
-}
-
-// Whether the only ray of the diagram is from (0, 0) along (1, 1) and has the function.
-fn has_diagonal(e: &Diagram, terms: &[(Key, i128)]) -> bool {
-    e.ray_count() == 1 && is_ray(e.ray(0), (0, 0), (1, 1), terms)
-}
+use std::thread::Threads;
 
 // ---- two lines
 
 fn two_lines_have_one_ray(alloc: Global, order: bool) -> Result<bool, Fail> {
-    let initial = Initial::new(2, plain_axes(alloc)?);
     let order = if order { 24 } else { 2 };
-    let outcome = complete_plain(alloc, &initial, order)?;
+    let outcome = complete_plain(alloc, &two_lines(alloc)?, order)?;
     Ok(
         outcome.stop.is_none()
             && outcome.last.order() == order
-            && has_diagonal(outcome.last.diagram(), &[(ONE, 1), (XY, 1)]),
+            && has_plain_diagonal(outcome.last.diagram()),
     )
 }
 
@@ -63,7 +52,7 @@ fn parallel_lines_have_no_ray(alloc: Global) -> Result<bool, Fail> {
 }
 
 #[test]
-fn two_lines(rt: HostRuntime) -> Result<(), Fail> {
+fn pairs_of_lines(rt: HostRuntime) -> Result<(), Fail> {
     assert!(rt; two_lines_have_one_ray(rt.alloc(), false)?);
     assert!(rt; two_lines_have_one_ray(rt.alloc(), true)?);
     assert!(rt; slanted_lines_have_one_ray(rt.alloc())?);
@@ -73,14 +62,6 @@ fn two_lines(rt: HostRuntime) -> Result<(), Fail> {
 }
 
 // ---- more lines, and more terms
-
-fn has_three_rays(outcome: &Outcome) -> bool {
-    let e = outcome.last.diagram();
-    e.ray_count() == 3
-        && is_ray(e.ray(0), (-1, 0), (2, 1), &[(ONE, 1), (T1T2T3_XXY, 1)])
-        && is_ray(e.ray(1), (0, 0), (1, 1), &[(ONE, 1), (XY, 1)])
-        && is_ray(e.ray(2), (0, 1), (1, 1), &[(ONE, 1), (T2T3_XY, 1)])
-}
 
 // Whether one wall alone lies along that supporting line: of this kind, along dir, at (x, y).
 fn has_run(e: &Diagram, run: usize, kind: WallKind, dir: (i32, i32), at: (i64, i64)) -> bool {
@@ -97,8 +78,7 @@ fn has_run(e: &Diagram, run: usize, kind: WallKind, dir: (i32, i32), at: (i64, i
     }
 }
 
-fn has_six_runs(outcome: &Outcome) -> bool {
-    let e = outcome.last.diagram();
+fn has_six_runs(e: &Diagram) -> bool {
     e.run_count() == 6
         && has_run(e, 0, WallKind::Line, (0, 1), (0, 0))
         && has_run(e, 1, WallKind::Line, (1, 0), (0, 0))
@@ -109,32 +89,23 @@ fn has_six_runs(outcome: &Outcome) -> bool {
 }
 
 fn three_lines_have_six_runs(alloc: Global) -> Result<bool, Fail> {
-    let mut lines = plain_axes(alloc)?;
-    lines.push(line(alloc, 0, 1, 1, 0, &[(ONE, 1), (T3_X, 1)])?)?;
-    let outcome = complete_plain(alloc, &Initial::new(3, lines), 3)?;
-    Ok(outcome.stop.is_none() && has_six_runs(&outcome))
+    let outcome = complete_plain(alloc, &three_lines(alloc)?, 3)?;
+    Ok(outcome.stop.is_none() && has_six_runs(outcome.last.diagram()))
 }
 
 fn three_lines_have_a_ray_where_rays_cross(alloc: Global) -> Result<bool, Fail> {
-    let mut lines = plain_axes(alloc)?;
-    lines.push(line(alloc, 0, 1, 1, 0, &[(ONE, 1), (T3_X, 1)])?)?;
-    let outcome = complete_plain(alloc, &Initial::new(3, lines), 3)?;
-    Ok(outcome.stop.is_none() && has_three_rays(&outcome))
-}
-
-fn has_rays_of_squares(outcome: &Outcome) -> bool {
-    let e = outcome.last.diagram();
-    e.ray_count() == 3
-        && is_ray(e.ray(0), (0, 0), (1, 1), &[(ONE, 1), (XY, 4), (XXYY, 10)])
-        && is_ray(e.ray(1), (0, 0), (1, 2), &[(ONE, 1), (XYY, 2)])
-        && is_ray(e.ray(2), (0, 0), (2, 1), &[(ONE, 1), (XXY, 2)])
+    let outcome = complete_plain(alloc, &three_lines(alloc)?, 3)?;
+    Ok(outcome.stop.is_none() && has_three_rays(outcome.last.diagram()))
 }
 
 fn squares_have_three_rays(alloc: Global) -> Result<bool, Fail> {
-    let initial = Initial::new(2, square_axes(alloc, 24)?);
-    let outcome = complete_plain(alloc, &initial, 4)?;
+    let outcome = complete_plain(alloc, &squares(alloc)?, 4)?;
     let copy = outcome.copy()?;
-    Ok(outcome.stop.is_none() && has_rays_of_squares(&outcome) && has_rays_of_squares(&copy))
+    Ok(
+        outcome.stop.is_none()
+            && has_rays_of_squares(outcome.last.diagram())
+            && has_rays_of_squares(copy.last.diagram()),
+    )
 }
 
 // Whether the diagram, cut to order 2, has the one ray of order 2.
@@ -148,8 +119,7 @@ fn has_diagonal_when_cut(e: &Diagram) -> Result<bool, Fail> {
 
 // Whether the completion at order 4 has that ray.
 fn a_cut_completion_is_that_of_the_order(alloc: Global) -> Result<bool, Fail> {
-    let initial = Initial::new(2, square_axes(alloc, 24)?);
-    let outcome = complete_plain(alloc, &initial, 4)?;
+    let outcome = complete_plain(alloc, &squares(alloc)?, 4)?;
     has_diagonal_when_cut(outcome.last.diagram())
 }
 
@@ -166,7 +136,7 @@ fn more_rays(rt: HostRuntime) -> Result<(), Fail> {
 
 // Whether order 0 has the lines alone, and a copy of it too.
 fn order_zero_has_the_lines(alloc: Global) -> Result<bool, Fail> {
-    let start = Completed::start(alloc, &Initial::new(2, plain_axes(alloc)?))?;
+    let start = Completed::start(alloc, &two_lines(alloc)?)?;
     let copy = start.copy()?;
     Ok(
         start.order() == 0
@@ -184,40 +154,20 @@ fn is_origin_alone(points: &[Point]) -> bool {
 }
 
 // Whether the origin is the one point of the next order.
-fn has_origin_as_task(last: &Completed) -> bool
+fn has_origin_as_task<R: Threads + Sync>(rt: &R, last: &Completed) -> bool
     requires { last.now.order < highest_order }
 {
-    match last.tasks() {
+    match last.tasks(rt) {
         Ok(points) => is_origin_alone(points.as_slice()),
         Err(_) => false,
     }
 }
 
 // Whether the origin is the one point of order 2.
-fn order_two_has_a_task(alloc: Global) -> Result<bool, Fail> {
-    let start = Completed::start(alloc, &Initial::new(2, plain_axes(alloc)?))?;
+fn order_two_has_a_task<R: Threads + Sync>(rt: &R, alloc: Global) -> Result<bool, Fail> {
+    let start = Completed::start(alloc, &two_lines(alloc)?)?;
     match start.next_order() {
-        Ok(first) => Ok(has_origin_as_task(&first)),
-        Err(_) => Ok(false),
-    }
-}
-
-// The next order of a completion that has no points there.
-fn advanced(last: &Completed) -> Result<Completed, Stop>
-    requires { last.now.order < highest_order }
-{
-    let points = last.tasks()?;
-    if points.len() > 0 {
-        return Err(Stop::Memory);
-    }
-    last.advance(&[])
-}
-
-// Whether order 1 has no points, and comes without corrections.
-fn order_one_advances(alloc: Global) -> Result<bool, Fail> {
-    let start = Completed::start(alloc, &Initial::new(2, plain_axes(alloc)?))?;
-    match advanced(&start) {
-        Ok(next) => Ok(next.order() == 1 && next.diagram().ray_count() == 0),
+        Ok(first) => Ok(has_origin_as_task(rt, &first)),
         Err(_) => Ok(false),
     }
 }
@@ -225,8 +175,7 @@ fn order_one_advances(alloc: Global) -> Result<bool, Fail> {
 #[test]
 fn orders(rt: HostRuntime) -> Result<(), Fail> {
     assert!(rt; order_zero_has_the_lines(rt.alloc())?);
-    assert!(rt; order_two_has_a_task(rt.alloc())?);
-    assert!(rt; order_one_advances(rt.alloc())?);
+    assert!(rt; order_two_has_a_task(&rt, rt.alloc())?);
     Ok(())
 }
 

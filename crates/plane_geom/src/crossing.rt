@@ -30,7 +30,7 @@ pub fn meet(s: &Support, t: &Support) -> Meeting
 }
 
 /// A point and the direction of the support's whole line.
-fn whole_line(s: &Support) -> (&Point, &Direction)
+pub fn whole_line(s: &Support) -> (&Point, &Direction)
     ensures at { point_of result.0.now ≡ support_at s.now }
     ensures dir { vector_of result.1.now ≡ support_dir s.now }
 {

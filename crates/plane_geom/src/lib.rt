@@ -14,7 +14,7 @@ mod places;
 mod products;
 
 pub use angle::angle_cmp;
-pub use crossing::meet;
+pub use crossing::{meet, whole_line};
 pub use places::{on, side};
 pub use products::minor;
 

@@ -54,12 +54,12 @@ fn next_by_workers<R: Threads + Sync, G: Gate>(
     requires order { done.now.order < highest_order }
     requires some { 1 ≤ workers }
     requires few { workers ≤ most_workers }
-    requires completed { IsCompleted done.now }
     ensures next { IfOk result (λ c. IsNextCompletion done.now c × IsCompleted c) }
     ensures free { IfOk result (λ c. IsStopAt done.now.initial.lines (done.now.order + 1) None) }
     ensures stop { IfErr result (IsStoppedAfter done.now) }
 {
-    let points = done.tasks()?;
+    let _ = done.order(); // tells that it is a completion
+    let points = done.tasks(rt)?;
     let corrections = correct_all(rt, alloc, done, points.as_slice(), workers, gate)?;
     done.advance(corrections.as_slice())
 }

@@ -4,6 +4,7 @@ pub mod OrderZero
 pub mod NextOrder
 pub mod NextStop
 pub mod Outcomes
+pub mod OwnJoints
 pub mod Points
 pub mod Stopped
 pub mod Tame

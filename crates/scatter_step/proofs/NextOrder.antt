@@ -28,7 +28,7 @@ module _ (c : SeenCompleted) (h : IsCompleted c) where
   unraised = raised-lines c.initial.lines c.order c.diagram h.lines h.completes.initial
 
   -- each wall has a wall function of the order
-  walls-proper : Every (IsWall c.order) (walls c.diagram)
+  pub walls-proper : Every (IsWall c.order) (walls c.diagram)
   walls-proper =
       Every-append (IsWall c.order) c.diagram.initial c.diagram.rays
       (subst (Every (IsWall c.order)) (sym h.completes.initial) (every-wall-cut c.order highest_order c.initial.lines h.given)) h.completes.proper

@@ -1,6 +1,6 @@
 // One order more.
 
-ghost use Rattle.std.specs.Prelude.{◌≡◌, ℕ, ◌+◌, ◌<◌, ◌≤◌, None, IfOk, IfErr};
+ghost use Rattle.std.specs.Prelude.{◌≡◌, ℕ, ◌+◌, ◌<◌, ◌≤◌, None, IfOk, IfErr, map};
 ghost use Rattle.limits.specs.Limits.{highest_order};
 ghost use Rattle.scattering.specs.Wall.{walls};
 ghost use Rattle.scattering.specs.Completion.{IsConsistent};
@@ -10,24 +10,32 @@ ghost use Rattle.scatter_step.specs.Completed.{IsCompleted};
 ghost use Rattle.scatter_step.specs.Orders.{IsNextCompletion, AreTasks, AreNextCorrections, AreAtLightPoints, IsStoppedByWalls, IsStoppedAfter, AreCorrectionsAt, IsStoppedByPoint};
 
 use crate::Completed;
-use joint_finder::joints;
+use joint_finder::{joints, joints_from};
 use local_product::{Workspace, obstruction_with, tables_of};
 use plane_geom::Point;
 use ray_merge::merged;
 use scatter_diagram::{Diagram, Stop};
-use std::alloc::Global;
+use std::alloc::{AllocError, Global};
+use std::thread::Threads;
 use vertex_lie::LieElement;
 
 impl Completed {
     /// The active points of the next order, sorted by x and then y, each once. The stop is `PointTooLarge`
-    /// where one of them has a number above 2^40 in lowest terms.
-    pub fn tasks(&self) -> Result<Vec<Point>, Stop>
+    /// where one of them has a number above 2^40 in lowest terms. They are found from those of its own
+    /// order, by threads where they can be started.
+    pub fn tasks<R: Threads + Sync>(&self, rt: &R) -> Result<Vec<Point>, Stop>
         requires { self.now.order < highest_order }
         ensures points { IfOk result (λ ps. AreTasks self.now ps.items) }
         ensures near { IfOk result (λ ps. AllNear (self.now.order + 1) (walls self.now.diagram)) }
         ensures stop { IfErr result (IsStoppedByFar (self.now.order + 1) (walls self.now.diagram)) }
     {
-        joints(self.allocator(), self.diagram(), self.order() + 1)
+        joints_from(
+            rt,
+            self.allocator(),
+            self.diagram(),
+            self.own_joints(),
+            self.order() + 1,
+        )
     }
 
     /// The completion of the next order, from the corrections at all active points, sorted by their points.
@@ -43,7 +51,8 @@ impl Completed {
         let e = self.diagram();
         let order = self.order() + 1;
         let next = merged(self.allocator(), self.initial(), e, corrections, order)?;
-        Ok(self.with_diagram(next)?)
+        let points = corrected_points(self.allocator(), corrections)?;
+        Ok(self.with_diagram(next, points)?)
     }
 
     /// The completion of the next order, made on one thread, or the first cause that stops it: an active
@@ -54,12 +63,23 @@ impl Completed {
         ensures free { IfOk result (λ c. IsStopAt self.now.initial.lines (self.now.order + 1) None) }
         ensures stop { IfErr result (IsStoppedAfter self.now) }
     {
-        let order = self.order() + 1;
-        let points = self.tasks()?;
         let alloc = self.allocator();
-        let corrections = corrections_at(alloc, self.diagram(), points.as_slice(), order)?;
+        let e = self.diagram();
+        let order = self.order() + 1;
+        let points = joints(alloc, e, order)?;
+        let corrections = corrections_at(alloc, e, points.as_slice(), order)?;
         self.advance(corrections.as_slice())
     }
+}
+
+/// The points of the corrections, in their order.
+fn corrected_points(
+    alloc: Global,
+    corrections: &[(Point, LieElement)],
+) -> Result<Vec<Point>, AllocError>
+    ensures { IfOk result (λ ps. ps.items ≡ map (λ c. c.0) corrections.now) }
+{
+    corrections.iter().map(|c| c.0).collect(alloc)
 }
 
 /// Each point with its correction of the order, or a stop where one of them is too heavy. The tables of the

@@ -1,7 +1,7 @@
 use Rattle.std.proofs.lemmas.Result.{err_from_is_err_and}
 use Rattle.joint_finder.specs.Crossings.{Meets, MeetsOne}
 use Rattle.joint_finder.proofs.Lists.{In-get}
-use Rattle.joint_finder.proofs.Meetings.{meets-more, meets-all, stops-with}
+use Rattle.joint_finder.proofs.Meetings.{some-more, meets-all, stops-with}
 use Rattle.joint_finder.proofs.crossings.add_crossings.Goals as goal
 
 pub returns-in_err-add_crossing-clause-far : goal.returns-in_err-add_crossing-clause-far
@@ -14,7 +14,7 @@ returns-in_err-add_crossing-clause-far c =
 
 pub loop-other-preserved : goal.loop-other-preserved
 loop-other-preserved c =
-    meets-more c.args.order c.args.wall.now c.other-item.result c.args.later.now c.loop-other.other-index _ _ _ c.loop-other-test.true c.other-item.is c.loop-other.invariant c.in_ok-add_crossing.ensures.points
+    some-more (Meets c.args.order c.args.wall.now) c.other-item.result c.args.later.now c.loop-other.other-index _ _ _ c.loop-other-test.true c.other-item.is c.loop-other.invariant c.in_ok-add_crossing.ensures.points
 
 pub returns-then-not-fits-clause-points : goal.returns-then-not-fits-clause-points
 returns-then-not-fits-clause-points c =

@@ -1,5 +1,5 @@
 use Rattle.std.proofs.Common.{arith}
-use Rattle.scatter_step.proofs.Outcomes.{outcome-whole, outcome-stopped}
+use Rattle.scatter_step.proofs.Outcomes.{reached-next, outcome-whole, outcome-stopped}
 use Rattle.scatter_run.proofs.workers.complete_by_workers.Goals as goal
 
 pub returns-in-Err-At : goal.returns-in-Err-At
@@ -12,3 +12,6 @@ returns g c =
     let a = c.loop.auto.counter-end in
     let b = c.loop-test.false in
     outcome-whole c.args.initial.now c.args.order c.loop.counter c.loop.last c.loop.invariant (omega (arith, a, b))
+
+pub loop-preserved : goal.loop-preserved
+loop-preserved g c = reached-next c.args.initial.now c.loop.counter c.loop.last c.in-Ok.next c.loop.invariant c.in-Ok.ensures.next.0 c.in-Ok.ensures.next.1 c.in-Ok.ensures.free

@@ -12,7 +12,7 @@ use Rattle.scatter_run.proofs.workers.next_by_workers.Goals as goal
 pub returns-in_err-points-clause-stop : goal.returns-in_err-points-clause-stop
 returns-in_err-points-clause-stop g c =
     let p = err_from_is_err_and c.from_residual.result c.from_residual.ensures.1 in
-    rw (p.1, p.2) (IfStop-weaker c.in_err-points.field-0.0 _ _ (λ n k h. (h.0, stops-far c.args.done.now c.requires.completed k h.1 h.2)) c.in_err-points.ensures.stop)
+    rw (p.1, p.2) (IfStop-weaker c.in_err-points.field-0.0 _ _ (λ n k h. (h.0, stops-far c.args.done.now c.order.ensures.completed k h.1 h.2)) c.in_err-points.ensures.stop)
 
 pub returns-in_err-corrections-clause-stop : goal.returns-in_err-corrections-clause-stop
 returns-in_err-corrections-clause-stop g c =
@@ -20,7 +20,7 @@ returns-in_err-corrections-clause-stop g c =
     rw (p.1, p.2) (IfStop-weaker c.in_err-corrections.field-0.0 _ _
     (λ n k h. (
       h.0,
-      stops-heavy c.args.done.now c.requires.completed c.in_ok-points.ensures.near k h.1
+      stops-heavy c.args.done.now c.order.ensures.completed c.in_ok-points.ensures.near k h.1
           (joints-heavy (walls c.args.done.now.diagram) (c.args.done.now.order + 1) (points_of c.in_ok-points.points.items) c.in_ok-points.ensures.points h.2),
     )) (rw c.as_slice.ensures.value at c.in_err-corrections.ensures.stop))
 
@@ -38,7 +38,7 @@ advance-requires-clause-light g c =
 
 pub returns-clause-free : goal.returns-clause-free
 returns-clause-free g c =
-    IfOk-weaker c.advance.result _ _ (λ d h. stops-not c.args.done.now c.requires.completed c.in_ok-points.ensures.near
+    IfOk-weaker c.advance.result _ _ (λ d h. stops-not c.args.done.now c.order.ensures.completed c.in_ok-points.ensures.near
     (joints-light (walls c.args.done.now.diagram) (c.args.done.now.order + 1) (points_of c.in_ok-points.points.items) (corrections_of c.in_ok-corrections.corrections.items) c.in_ok-points.ensures.points
     (rw c.as_slice.ensures.value at c.in_ok-corrections.ensures.corrections)) d h.0 h.1) c.advance.ensures.next
 
@@ -46,7 +46,7 @@ pub returns-clause-stop : goal.returns-clause-stop
 returns-clause-stop g c =
     IfErr-weaker c.advance.result _ _ (λ s. IfStop-weaker s _ _ (λ n k h. (
       h.0,
-      stops-many c.args.done.now c.requires.completed c.in_ok-points.ensures.near
+      stops-many c.args.done.now c.order.ensures.completed c.in_ok-points.ensures.near
           (joints-light (walls c.args.done.now.diagram) (c.args.done.now.order + 1) (points_of c.in_ok-points.points.items) (corrections_of c.in_ok-corrections.corrections.items) c.in_ok-points.ensures.points
           (rw c.as_slice.ensures.value at c.in_ok-corrections.ensures.corrections)) k h.1 h.2,
     ))) c.advance.ensures.stop

@@ -7,6 +7,7 @@ use Rattle.scatter_diagram.specs.Listed.{SeenInitial}
 use Rattle.ray_merge.specs.Additions.{corrections_of}
 use Rattle.ray_merge.specs.Answer.{StayWithin}
 use Rattle.scatter_step.proofs.NextOrder.{mergeable, light, stay-within, completes-next}
+use Rattle.scatter_step.proofs.OwnJoints.{corrected-joints}
 use Rattle.scatter_step.proofs.Read.{read-from, read-into}
 use Rattle.scatter_step.proofs.Tame.{tame-corrections}
 use Rattle.scatter_step.proofs.Stopped.{IfStop-weaker}
@@ -46,3 +47,8 @@ with_diagram-requires-clause-completes c =
     (completes-next c.args.self.now c.order-order.ensures.completed c.requires.order (corrections_of c.args.corrections.now) c.requires.corrections c.in_ok-next.next.diagram
     (read-from (λ n d. IsMerged c.args.self.now.initial.lines d (corrections_of c.args.corrections.now) (n + 1) c.in_ok-next.next.diagram) c.order-order.result c.diagram-e.result.now c.args.self.now.order c.args.self.now.diagram c.order-order.ensures.value c.diagram-e.ensures.value
     (subst (λ (i : SeenInitial). IsMerged i.lines c.diagram-e.result.now.diagram (corrections_of c.args.corrections.now) (c.order-order.result + 1) c.in_ok-next.next.diagram) c.initial.ensures.value c.in_ok-next.ensures.merged)))
+
+pub with_diagram-requires-clause-points : goal.with_diagram-requires-clause-points
+with_diagram-requires-clause-points c =
+    corrected-joints c.args.self.now c.order-order.ensures.completed c.requires.order c.args.corrections.now c.in_ok-points.points.items c.in_ok-next.next.order c.in_ok-next.next.diagram c.requires.corrections c.in_ok-points.ensures
+    (c.in_ok-next.ensures.order ∙ ap (λ (m : ℕ). m + 1) c.order-order.ensures.value) (with_diagram-requires-clause-completes c)
