@@ -8,6 +8,8 @@ mod completions;
 #[cfg(test)]
 mod gates;
 #[cfg(test)]
+mod generated;
+#[cfg(test)]
 mod inputs;
 #[cfg(test)]
 mod outside;

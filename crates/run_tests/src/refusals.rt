@@ -6,7 +6,7 @@ use scatter_run::Status;
 use scatter_text::{LimitKind, TextKind};
 use std::test::Fail;
 
-const WORDS: [Case; 9] = [
+const WORDS: [Case; 15] = [
     Case {
         meaning: "an order above 24",
         words: "complete 25 1",
@@ -66,6 +66,48 @@ const WORDS: [Case; 9] = [
     Case {
         meaning: "no worker",
         words: "complete 4 0",
+        input: TWO_LINES,
+        status: Status::Words,
+        output: "fault words\n",
+    },
+    Case {
+        meaning: "the number 0",
+        words: "generate 0",
+        input: TWO_LINES,
+        status: Status::Words,
+        output: "fault words\n",
+    },
+    Case {
+        meaning: "a number above 1000000",
+        words: "generate 1000001",
+        input: TWO_LINES,
+        status: Status::Words,
+        output: "fault words\n",
+    },
+    Case {
+        meaning: "a number with a zero in front",
+        words: "generate 07",
+        input: TWO_LINES,
+        status: Status::Words,
+        output: "fault words\n",
+    },
+    Case {
+        meaning: "a number with a sign",
+        words: "generate +7",
+        input: TWO_LINES,
+        status: Status::Words,
+        output: "fault words\n",
+    },
+    Case {
+        meaning: "no number",
+        words: "generate",
+        input: TWO_LINES,
+        status: Status::Words,
+        output: "fault words\n",
+    },
+    Case {
+        meaning: "a second number",
+        words: "generate 1 2",
         input: TWO_LINES,
         status: Status::Words,
         output: "fault words\n",

@@ -1,5 +1,5 @@
--- What is made of a file by its initial lines, their completion and its text.
-use Rattle.std.proofs.Common.{◌≡◌, ℕ, subst, ◌≤◌, List, length, arith}
+-- What is made of lines by their walls, the completion of these and its text.
+use Rattle.std.proofs.Common.{◌≡◌, ◌∙◌, ℕ, ap, subst, ◌≤◌, List, length, arith}
 use Rattle.std.specs.Prelude.{Option, Some, None}
 use Rattle.limits.specs.Limits.{highest_order, most_bytes}
 use Rattle.scattering.specs.Wall.{Wall, cut_walls}
@@ -11,34 +11,44 @@ use Rattle.scatter_diagram.specs.Listed.{SeenInitial}
 use Rattle.scatter_diagram.specs.Stopped.{stop_of}
 use Rattle.scatter_step.specs.Orders.{IsOutcome}
 use Rattle.scatter_step.specs.declared.complete.Outcome.{Outcome}
+use Rattle.scatter_text.specs.declared.file.LineRow.{LineRow}
 use Rattle.scatter_text.specs.declared.file.TextFile.{TextFile}
 use Rattle.scatter_text.specs.DiagramText.{IsDiagramText}
 use Rattle.scatter_text.specs.GivenWalls.{IsInitialOf}
-use Rattle.scatter_run.specs.Completed.{IsCompletedText}
+use Rattle.scatter_run.specs.Completed.{IsLastCompletion, IsCompletedText, IsSummary}
+use Rattle.scatter_run.specs.Generated.{generated_lines, generated_order, summary_text}
 use Rattle.scatter_text.specs.Grammar.{IsTextOf}
 use Rattle.scatter_text.specs.Limits.{limit_of}
 use Rattle.scatter_run.specs.declared.status.Status.{Status}
 use Rattle.scatter_run.specs.declared.status.Status.TheVariants.{Done, Words, Text, Limit, Stopped, ReadFault, WriteFault, Memory}
-use Rattle.scatter_run.specs.Outcome.{IsEnded, IsCompleteOutcome, ends_with}
+use Rattle.scatter_run.specs.Outcome.{IsEnded, IsCompleteOutcome, IsGenerateOutcome, ends_with}
 use Rattle.scatter_run.proofs.OneOutcome.{last-low}
 
-completed-text : (file : TextFile) (order : ℕ) (i : SeenInitial) (o : Outcome) (text : List ℕ) → order ≤ highest_order → IsInitialOf file i → IsOutcome i order o
-    → IsDiagramText i.vars o.last.order o.last.diagram (stop_of o.stop) text → IsCompletedText file order (stop_of o.stop) text
-completed-text file order i o text low is out t =
+pub last-completion : (file : TextFile) (order : ℕ) (i : SeenInitial) (o : Outcome) → order ≤ highest_order → IsInitialOf file i → IsOutcome i order o
+    → IsLastCompletion file.lines order (stop_of o.stop) o.last.diagram
+last-completion file order i o low is out =
     let first : IsFirstStop (cut_walls highest_order is.given) order (stop_of o.stop) = subst (λ (ws : List Wall). IsFirstStop ws order (stop_of o.stop)) is.lines out.stop in
     let last : last_before order (stop_of o.stop) ≤ highest_order = let l = last-low (cut_walls highest_order is.given) order (stop_of o.stop) first in omega (arith, l, low) in
     let done : IsCompletion (cut_walls highest_order is.given) (last_before order (stop_of o.stop)) o.last.diagram =
     subst (λ (ws : List Wall). IsCompletion ws (last_before order (stop_of o.stop)) o.last.diagram) is.lines (subst (λ (n : ℕ). IsCompletion i.lines n o.last.diagram) out.order out.completes) in
     record {
-      vars = i.vars;
       given = is.given;
-      diagram = o.last.diagram;
-      variables = is.vars;
       lines = is.walls;
       first = first_stop-of_cut is.given highest_order order (stop_of o.stop) low first;
       completion = completion-of_cut is.given highest_order (last_before order (stop_of o.stop)) o.last.diagram last done;
-      printed = subst (λ (n : ℕ). IsDiagramText i.vars n o.last.diagram (stop_of o.stop) text) out.order t;
     }
+
+-- ---- `complete`
+
+completed-text : (file : TextFile) (order : ℕ) (i : SeenInitial) (o : Outcome) (text : List ℕ) → order ≤ highest_order → IsInitialOf file i → IsOutcome i order o
+    → IsDiagramText i.vars o.last.order o.last.diagram (stop_of o.stop) text → IsCompletedText file order (stop_of o.stop) text
+completed-text file order i o text low is out t = record {
+  vars = i.vars;
+  diagram = o.last.diagram;
+  variables = is.vars;
+  last = last-completion file order i o low is out;
+  printed = subst (λ (n : ℕ). IsDiagramText i.vars n o.last.diagram (stop_of o.stop) text) out.order t;
+}
 
 ended-by : (file : TextFile) (order : ℕ) (stop : Option (ℕ × CodeCause)) (text : List ℕ) → IsCompletedText file order (stop_of stop) text → IsEnded file order (ends_with stop) text
 ended-by file order None text h = h
@@ -58,3 +68,19 @@ job-outcome order bytes file (Stopped at cause) text short reads within h = reco
 job-outcome order bytes file ReadFault text short reads within h = absurd h
 job-outcome order bytes file WriteFault text short reads within h = absurd h
 job-outcome order bytes file Memory text short reads within h = absurd h
+
+-- ---- `generate`
+
+summed-by : (number : ℕ) (stop : Option (ℕ × CodeCause)) (text : List ℕ) → IsSummary number (stop_of stop) text → IsGenerateOutcome number (ends_with stop) text
+summed-by number None text h = h
+summed-by number (Some s) text h = h
+
+pub summed : (number : ℕ) (file : TextFile) (i : SeenInitial) (o : Outcome) (text : List ℕ) → file.lines ≡ generated_lines number → IsInitialOf file i → IsOutcome i generated_order o
+    → text ≡ summary_text number o.last.order o.last.diagram.rays (stop_of o.stop) → IsGenerateOutcome number (ends_with o.stop) text
+summed number file i o text lines is out t = summed-by number o.stop text (record {
+  diagram = o.last.diagram;
+  last =
+      subst (λ (rows : List LineRow). IsLastCompletion rows generated_order (stop_of o.stop) o.last.diagram) lines
+      (last-completion file generated_order i o (omega arith) is out);
+  printed = t ∙ ap (λ (n : ℕ). summary_text number n o.last.diagram.rays (stop_of o.stop)) out.order;
+})

@@ -1,7 +1,6 @@
 -- Words and bytes have one outcome: one status and one text.
 use Rattle.std.proofs.Common.{◌≡◌, ℕ, zero, suc, refl, sym, ◌∙◌, ap, subst, ◌≤◌, ◌<◌, ◌⊎◌, inl, inr, List, length, arith}
 use Rattle.std.specs.Prelude.{pos, Option, Some, None, IfSome}
-use Rattle.std.specs.List.{AllZip}
 use Rattle.limits.specs.Limits.{highest_order, most_bytes}
 use Rattle.scattering.specs.Collections.{Every}
 use Rattle.scattering.specs.Wall.{Wall, IsWall, Diagram, walls, cut_walls}
@@ -21,22 +20,24 @@ use Rattle.scatter_text.specs.declared.fault.LimitKind.{LimitKind}
 use Rattle.scatter_text.specs.declared.fault.LimitKind.TheVariants.{Bytes}
 use Rattle.scatter_text.specs.declared.fault.TextKind.{TextKind}
 use Rattle.scatter_text.specs.Grammar.{IsTextOf, IsTextFault}
-use Rattle.scatter_text.specs.Limits.{limit_of, limit_by}
+use Rattle.scatter_text.specs.Limits.{limit_of, limit_by, IsWithinLimits}
 use Rattle.scatter_text.specs.DiagramText.{IsDiagramText}
-use Rattle.scatter_text.specs.GivenWalls.{IsWallOf}
 use Rattle.scatter_text.proofs.WithinLimits.{within-limits}
 use Rattle.scatter_text.proofs.InitialLines.{given-cut}
 use Rattle.scatter_text.proofs.Outcomes.{text_has_no_fault, fault_is_one}
 use Rattle.scatter_text.proofs.OneFile.{file_is_one}
 use Rattle.scatter_text.proofs.OneDiagramText.{walls-one, text-one}
 use Rattle.scatter_run.specs.declared.words.Job.{Job}
-use Rattle.scatter_run.specs.declared.words.Job.TheVariants.{Complete}
+use Rattle.scatter_run.specs.declared.words.Job.TheVariants.{Complete, Generate}
 use Rattle.scatter_run.specs.declared.status.Status.{Status}
 use Rattle.scatter_run.specs.declared.status.Status.TheVariants.{Done, Words, Text, Limit, Stopped, ReadFault, WriteFault, Memory}
 use Rattle.scatter_run.specs.Words.{AreWordsOf, NameNoJob}
-use Rattle.scatter_run.specs.Outcome.{IsCompleteOutcome, IsJobOutcome, IsRunOutcome, IsVerdict, HasCompleted, IsLimited as IsLimitOf, PassesLimit, ends_with, bad_text, limit_fault_text, words_fault_text}
+use Rattle.scatter_run.specs.Outcome.{IsCompleteOutcome, IsGenerateOutcome, IsJobOutcome, IsRunOutcome, IsVerdict, HasCompleted, IsLimited as IsLimitOf, PassesLimit, ends_with, bad_text, limit_fault_text, words_fault_text}
+use Rattle.scatter_run.specs.Completed.{IsLastCompletion, IsSummary}
+use Rattle.scatter_run.specs.Generated.{generated_order, summary_text}
 use Rattle.scatter_run.specs.Promise.{IsOnlyOutcome, HasWritten}
 use Rattle.scatter_run.specs.Writing.{IsWritten}
+use Rattle.scatter_run.proofs.GeneratedFile.{file_of, file-within}
 use Rattle.scatter_run.proofs.Promises.{none-some, outcome-same}
 
 -- ---- what is completed
@@ -46,54 +47,69 @@ last-low given k None h = omega arith
 last-low given k (Some (zero, c)) h = omega arith
 last-low given k (Some (suc n, c)) h = let l = h.0 in omega (arith, l)
 
-record Same (stop stop' : Option (ℕ × StopCause)) (text other : List ℕ) : Type 0 where
+record Same (stop stop' : Option (ℕ × StopCause)) (e e' : Diagram) : Type 0 where
   stops : stop ≡ stop'
-  texts : text ≡ other
+  diagrams : e ≡ e'
 
 -- of one list of walls
-module _ (given : List Wall) (order vars : ℕ) (low : order ≤ highest_order) (proper : Every (IsWall highest_order) (cut_walls highest_order given)) where
+module _ (given : List Wall) (order : ℕ) (low : order ≤ highest_order) (proper : Every (IsWall highest_order) (cut_walls highest_order given)) where
   diagram-walls : (n : ℕ) (e : Diagram) → n ≤ highest_order → IsCompletion given n e → Every (IsWall n) (walls e)
   diagram-walls n e le c =
       Every-append (IsWall n) e.initial e.rays
       (subst (Every (IsWall n)) (cut-cuts n highest_order le given ∙ sym c.initial) (every-wall-cut n highest_order (cut_walls highest_order given) proper)) c.proper
 
-  same-text : (n : ℕ) (e e' : Diagram) (stop : Option (ℕ × StopCause)) (text other : List ℕ) → n ≤ highest_order → IsCompletion given n e → IsCompletion given n e'
-      → IsDiagramText vars n e stop text → IsDiagramText vars n e' stop other → text ≡ other
-  same-text n e e' stop text other le c c' t t' =
-      let one : e ≡ e' = completion_is_unique (cut_walls highest_order given) n highest_order e e' le proper (completion-to_cut given highest_order n e le c) (completion-to_cut given highest_order n e' le c') in
-      text-one vars n n e stop text other (diagram-walls n e le c) t (subst (λ (d : Diagram). IsDiagramText vars n d stop other) (sym one) t')
-
-  same : (stop stop' : Option (ℕ × StopCause)) (e e' : Diagram) (text other : List ℕ) → IsFirstStop given order stop → IsFirstStop given order stop'
-      → IsCompletion given (last_before order stop) e → IsCompletion given (last_before order stop') e'
-      → IsDiagramText vars (last_before order stop) e stop text → IsDiagramText vars (last_before order stop') e' stop' other → Same stop stop' text other
-  same stop stop' e e' text other f f' c c' t t' =
+  same : (stop stop' : Option (ℕ × StopCause)) (e e' : Diagram) → IsFirstStop given order stop → IsFirstStop given order stop'
+      → IsCompletion given (last_before order stop) e → IsCompletion given (last_before order stop') e' → Same stop stop' e e'
+  same stop stop' e e' f f' c c' =
       let s : stop ≡ stop' = first_stop_is_unique (cut_walls highest_order given) order highest_order stop stop' low proper (first_stop-to_cut given highest_order order stop low f) (first_stop-to_cut given highest_order order stop' low f') in
+      let n = last_before order stop in
       let le : last_before order stop ≤ highest_order = let l = last-low given order stop f in omega (arith, l, low) in
+      let d : IsCompletion given n e' = subst (λ (x : Option (ℕ × StopCause)). IsCompletion given (last_before order x) e') (sym s) c' in
       record {
         stops = s;
-        texts =
-            same-text (last_before order stop) e e' stop text other le c
-            (subst (λ (x : Option (ℕ × StopCause)). IsCompletion given (last_before order x) e') (sym s) c') t
-            (subst (λ (x : Option (ℕ × StopCause)). IsDiagramText vars (last_before order x) e' x other) (sym s) t');
+        diagrams = completion_is_unique (cut_walls highest_order given) n highest_order e e' le proper (completion-to_cut given highest_order n e le c) (completion-to_cut given highest_order n e' le d);
       }
+
+-- of the lines of a file
+module _ (file : TextFile) (order : ℕ) (low : order ≤ highest_order) (within : IsWithinLimits file) where
+  last-one : (stop stop' : Option (ℕ × StopCause)) (e e' : Diagram) → IsLastCompletion file.lines order stop e → IsLastCompletion file.lines order stop' e' → Same stop stop' e e'
+  last-one stop stop' e e' p q =
+      let w : p.given ≡ q.given = walls-one file.vars file.lines p.given q.given file.valid p.lines q.lines in
+      same p.given order low (given-cut file p.given within p.lines) stop stop' e e' p.first
+      (subst (λ (ws : List Wall). IsFirstStop ws order stop') (sym w) q.first) p.completion
+      (subst (λ (ws : List Wall). IsCompletion ws (last_before order stop') e') (sym w) q.completion)
+
+  last-walls : (stop : Option (ℕ × StopCause)) (e : Diagram) → IsLastCompletion file.lines order stop e → Every (IsWall (last_before order stop)) (walls e)
+  last-walls stop e p =
+      let l = last-low p.given order stop p.first in
+      diagram-walls p.given order low (given-cut file p.given within p.lines) (last_before order stop) e (omega (arith, l, low)) p.completion
 
 -- ---- two answers of one text
 
 pos-one : (m n : ℕ) → pos m ≡ pos n → m ≡ n
 pos-one m n e = cc
 
-completed-one : (order : ℕ) (bytes : List ℕ) (stop stop' : Option (ℕ × StopCause)) (text other : List ℕ) → order ≤ highest_order → HasCompleted order stop bytes text → HasCompleted order stop' bytes other → Same stop stop' text other
+record SameText (stop stop' : Option (ℕ × StopCause)) (text other : List ℕ) : Type 0 where
+  stops : stop ≡ stop'
+  texts : text ≡ other
+
+completed-one : (order : ℕ) (bytes : List ℕ) (stop stop' : Option (ℕ × StopCause)) (text other : List ℕ) → order ≤ highest_order → HasCompleted order stop bytes text → HasCompleted order stop' bytes other → SameText stop stop' text other
 completed-one order bytes stop stop' text other low a b =
     let p = a.completed in
     let q = b.completed in
     let f = file_is_one bytes a.file b.file a.reads b.reads in
-    let lines : AllZip IsWallOf a.file.lines q.given = subst (λ (rows : List LineRow). AllZip IsWallOf rows q.given) (sym f.1) q.lines in
-    let w : p.given ≡ q.given = walls-one a.file.vars a.file.lines p.given q.given a.file.valid p.lines lines in
+    let within = within-limits a.file order a.within in
     let v : p.vars ≡ q.vars = pos-one p.vars q.vars (sym p.variables ∙ f.0 ∙ q.variables) in
-    same p.given order p.vars low (given-cut a.file p.given (within-limits a.file order a.within) p.lines) stop stop' p.diagram q.diagram text other p.first
-    (subst (λ (ws : List Wall). IsFirstStop ws order stop') (sym w) q.first) p.completion
-    (subst (λ (ws : List Wall). IsCompletion ws (last_before order stop') q.diagram) (sym w) q.completion) p.printed
-    (subst (λ (n : ℕ). IsDiagramText n (last_before order stop') q.diagram stop' other) (sym v) q.printed)
+    let o = last-one a.file order low within stop stop' p.diagram q.diagram p.last (subst (λ (rows : List LineRow). IsLastCompletion rows order stop' q.diagram) (sym f.1) q.last) in
+    let n = last_before order stop in
+    let t : IsDiagramText p.vars n p.diagram stop other =
+    subst (λ (e : Diagram). IsDiagramText p.vars n e stop other) (sym o.diagrams)
+    (subst (λ (x : Option (ℕ × StopCause)). IsDiagramText p.vars (last_before order x) q.diagram x other) (sym o.stops)
+    (subst (λ (m : ℕ). IsDiagramText m (last_before order stop') q.diagram stop' other) (sym v) q.printed)) in
+    record {
+      stops = o.stops;
+      texts = text-one p.vars n n p.diagram stop text other (last-walls a.file order low within stop p.diagram p.last) p.printed t;
+    }
 
 limit-one : (bytes : List ℕ) (f g : TextFile) (order : ℕ) → IsTextOf bytes f → IsTextOf bytes g → limit_of f order ≡ limit_of g order
 limit-one bytes f g order a b =
@@ -206,6 +222,29 @@ module _ (order : ℕ) (bytes : List ℕ) where
       let e = completed-one order bytes (stop_of a.0) (stop_of b.0) text other low a.1 b.1 in
       record { same-status = a.2 ∙ stop-one a.0 b.0 e.stops ∙ sym b.2; same-text = e.texts }
 
+-- ---- `generate`
+
+abbrev IsSummed : ℕ → Status → List ℕ → Type 0
+IsSummed number s text = (stop : Option (ℕ × CodeCause)) × IsSummary number (stop_of stop) text × (s ≡ ends_with stop)
+
+is-summed : (number : ℕ) (s : Status) (text : List ℕ) → IsGenerateOutcome number s text → IsSummed number s text
+is-summed number Done text h = (None, h, refl)
+is-summed number Words text h = absurd h
+is-summed number (Text line kind) text h = absurd h
+is-summed number (Limit kind) text h = absurd h
+is-summed number (Stopped at cause) text h = (Some (at, cause), h, refl)
+is-summed number ReadFault text h = absurd h
+is-summed number WriteFault text h = absurd h
+is-summed number Memory text h = absurd h
+
+summary-one : (number : ℕ) (s t : Status) (text other : List ℕ) → IsSummed number s text → IsSummed number t other → One s t text other
+summary-one number s t text other (stop, a, e) (stop', b, f) =
+    let o = last-one (file_of number) generated_order (omega arith) (file-within number) (stop_of stop) (stop_of stop') a.diagram b.diagram a.last b.last in
+    record {
+      same-status = e ∙ stop-one stop stop' o.stops ∙ sym f;
+      same-text = a.printed ∙ (λ i. summary_text number (last_before generated_order (o.stops i)) (o.diagrams i).rays (o.stops i)) ∙ sym b.printed;
+    }
+
 -- ---- outcomes of words
 
 record IsOneJob (job : Job) : Type 0 where
@@ -214,6 +253,9 @@ record IsOneJob (job : Job) : Type 0 where
 job-one : (words : List (List ℕ)) (job : Job) → AreWordsOf words job → IsOneJob job
 job-one words (Complete order workers) a = record {
   one = λ bytes s t text other x y. one order bytes s t text other a.order_most (is order bytes s text x) (is order bytes t other y);
+}
+job-one words (Generate number) a = record {
+  one = λ bytes s t text other x y. summary-one number s t text other (is-summed number s text x) (is-summed number t other y);
 }
 
 abbrev HasNoJob : List (List ℕ) → Status → List ℕ → Type 0

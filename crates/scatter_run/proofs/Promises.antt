@@ -1,20 +1,20 @@
 -- From what was read and given to what a job keeps.
-use Rattle.std.proofs.Common.{◌≡◌, ℕ, ◌-◌, ◌<◌, ◌^◌, refl, sym, ◌∙◌, subst, ◌⊎◌, inl, inr, List, [], ◌∷◌, arith}
-use Rattle.std.specs.Prelude.{Option, Some, None, IfSome, decimal, codes}
-use Rattle.std.proofs.lemmas.Fmt.{decimal_injective}
+use Rattle.std.proofs.Common.{◌≡◌, ℕ, ◌-◌, ◌<◌, ◌^◌, refl, sym, ◌∙◌, subst, ◌⊎◌, inl, inr, List, [], arith}
+use Rattle.std.specs.Prelude.{Option, Some, None, IfSome}
 use Rattle.outside_io.specs.Outside.{Rose}
 use Rattle.scatter_diagram.specs.Stopped.{cause_of}
 use Rattle.scatter_text.specs.declared.fault.LimitKind.{LimitKind}
 use Rattle.scatter_text.specs.declared.fault.LimitKind.TheVariants.{Bytes}
 use Rattle.scatter_run.specs.declared.words.Job.{Job}
-use Rattle.scatter_run.specs.declared.words.Job.TheVariants.{Complete}
+use Rattle.scatter_run.specs.declared.words.Job.TheVariants.{Complete, Generate}
 use Rattle.scatter_run.specs.declared.status.Status.{Status}
 use Rattle.scatter_run.specs.declared.status.Status.TheVariants.{Done, Words, Text, Limit, Stopped, ReadFault, WriteFault, Memory}
-use Rattle.scatter_run.specs.Words.{AreCompleteWords, AreWordsOf, NameNoJob}
+use Rattle.scatter_run.specs.Words.{AreWordsOf, NameNoJob}
 use Rattle.scatter_run.specs.Reading.{IsReadWhole, IsTooLong}
 use Rattle.scatter_run.specs.Writing.{IsWritten, IsCutShort}
-use Rattle.scatter_run.specs.Outcome.{IsCompleteOutcome, IsLimited, IsAccepted, IsJobOutcome, IsJobAccepted, IsRunOutcome, IsRunAccepted, IsVerdict, SaysRead, read_fault_text, words_fault_text, limit_fault_text}
+use Rattle.scatter_run.specs.Outcome.{IsCompleteOutcome, IsLimited, IsAccepted, IsGenerateOutcome, IsUnstopped, IsJobOutcome, IsJobAccepted, SaysJobRead, IsRunOutcome, IsRunAccepted, SaysRunRead, IsVerdict, SaysRead, SaysNothing, read_fault_text, words_fault_text, limit_fault_text}
 use Rattle.scatter_run.specs.Promise.{IsKept, IsDue, IsGiven}
+use Rattle.scatter_run.proofs.WordLists.{one-job}
 
 no-rise : (n m : ℕ) → n < 2 ^ 64 - 1 → Rose n m → m ≡ n → ⊥
 no-rise n m small rose same = omega (arith, rose)
@@ -26,8 +26,8 @@ told : (P : List ℕ → Type 0) (left : Option (List ℕ)) → ((bytes : List �
 told P None h = tt
 told P (Some bytes) h = h bytes
 
--- ---- any job, whose bytes have no outcome but Done where they are accepted
-module _ (Answers : List ℕ → Status → List ℕ → Type 0) (Accepts : List ℕ → Type 0)
+-- ---- any job, whose bytes have no outcome but Done where they are accepted, and which says of a verdict alone that it read to the end
+module _ (Answers : List ℕ → Status → List ℕ → Type 0) (Accepts : List ℕ → Type 0) (Says : Status → Type 0) (verdict : (s : Status) → Says s → IsVerdict s)
     (left rest : Option (List ℕ)) (f f' : ℕ) (held after : Option (List ℕ)) (k k' : ℕ) where
   no-write : ReadFault ≡ WriteFault → ⊥
   no-write e = cc
@@ -48,8 +48,8 @@ module _ (Answers : List ℕ → Status → List ℕ → Type 0) (Accepts : List
   memory-write e = cc
 
   -- a write failed
-  cut_kept : (text : List ℕ) → k < 2 ^ 64 - 1 → IsDue Answers left rest f f' text → Rose k k' → IsCutShort held after text
-      → IsKept Answers Accepts left rest f f' held after k k' WriteFault
+  cut_kept : (text : List ℕ) → k < 2 ^ 64 - 1 → IsDue Answers Says left rest f f' text → Rose k k' → IsCutShort held after text
+      → IsKept Answers Accepts Says left rest f f' held after k k' WriteFault
   cut_kept text small due rose cut = record {
     outcome = told _ left (λ bytes v. absurd v);
     complete = told _ left (λ bytes ok e e'. absurd (no-rise k k' small rose e'));
@@ -59,11 +59,11 @@ module _ (Answers : List ℕ → Status → List ℕ → Type 0) (Accepts : List
     write_text = λ e. (text, due, cut);
     memory = λ e. absurd (unwritten e);
     memory_alone = λ e. absurd (unwritten e);
-    to_end = told _ left (λ bytes says. absurd says);
+    to_end = told _ left (λ bytes says. absurd (verdict WriteFault says));
   }
 
   -- memory was wanting before anything was written
-  pub memory_kept : f' ≡ f → after ≡ held → k' ≡ k → IsKept Answers Accepts left rest f f' held after k k' Memory
+  pub memory_kept : f' ≡ f → after ≡ held → k' ≡ k → IsKept Answers Accepts Says left rest f f' held after k k' Memory
   memory_kept e h e' = record {
     outcome = told _ left (λ bytes v. absurd v);
     complete = told _ left (λ bytes ok a b. inr refl);
@@ -73,10 +73,10 @@ module _ (Answers : List ℕ → Status → List ℕ → Type 0) (Accepts : List
     write_text = λ w. absurd (memory-write w);
     memory = λ w. h;
     memory_alone = λ w. (e, e');
-    to_end = told _ left (λ bytes says. absurd says);
+    to_end = told _ left (λ bytes says. absurd (verdict Memory says));
   }
 
-  read-told : Rose f f' → f < 2 ^ 64 - 1 → IsWritten held after read_fault_text → IsKept Answers Accepts left rest f f' held after k k' ReadFault
+  read-told : Rose f f' → f < 2 ^ 64 - 1 → IsWritten held after read_fault_text → IsKept Answers Accepts Says left rest f f' held after k k' ReadFault
   read-told rose small written = record {
     outcome = told _ left (λ bytes v. absurd v);
     complete = told _ left (λ bytes ok e e'. absurd (no-rise f f' small rose e));
@@ -86,26 +86,26 @@ module _ (Answers : List ℕ → Status → List ℕ → Type 0) (Accepts : List
     write_text = λ e. absurd (no-write e);
     memory = λ e. absurd (no-memory e);
     memory_alone = λ e. absurd (no-memory e);
-    to_end = told _ left (λ bytes says. absurd says);
+    to_end = told _ left (λ bytes says. absurd (verdict ReadFault says));
   }
 
   -- a read failed
   pub read_kept : (result : Status) → f < 2 ^ 64 - 1 → k < 2 ^ 64 - 1 → Rose f f' → IsGiven held after k k' ReadFault read_fault_text result
-      → IsKept Answers Accepts left rest f f' held after k k' result
+      → IsKept Answers Accepts Says left rest f f' held after k k' result
   read_kept result small small' rose (inl g) =
-      subst (λ (s : Status). IsKept Answers Accepts left rest f f' held after k k' s) (sym g.0) (read-told rose small g.1)
+      subst (λ (s : Status). IsKept Answers Accepts Says left rest f f' held after k k' s) (sym g.0) (read-told rose small g.1)
   read_kept result small small' rose (inr g) =
-      subst (λ (s : Status). IsKept Answers Accepts left rest f f' held after k k' s) (sym g.0)
+      subst (λ (s : Status). IsKept Answers Accepts Says left rest f f' held after k k' s) (sym g.0)
       (cut_kept read_fault_text small' (inr (rose, refl)) g.1 g.2)
 
   abbrev IsAnswered : Status → List ℕ → Type 0
-  IsAnswered status text = IfSome left (λ bytes. Answers bytes status text × (SaysRead status → rest ≡ Some []))
+  IsAnswered status text = IfSome left (λ bytes. Answers bytes status text × (Says status → rest ≡ Some []))
 
   outcome-of : (status : Status) (text : List ℕ) → IsAnswered status text → IsWritten held after text
       → IfSome left (λ bytes. IsVerdict status → (t : List ℕ) × Answers bytes status t × IsWritten held after t)
   outcome-of status text = go left
     where
-      go : (l : Option (List ℕ)) → IfSome l (λ bytes. Answers bytes status text × (SaysRead status → rest ≡ Some [])) → IsWritten held after text
+      go : (l : Option (List ℕ)) → IfSome l (λ bytes. Answers bytes status text × (Says status → rest ≡ Some [])) → IsWritten held after text
           → IfSome l (λ bytes. IsVerdict status → (t : List ℕ) × Answers bytes status t × IsWritten held after t)
       go None a written = tt
       go (Some bytes) a written = λ v. (text, a.0, written)
@@ -114,33 +114,33 @@ module _ (Answers : List ℕ → Status → List ℕ → Type 0) (Accepts : List
       → IfSome left (λ bytes. Accepts bytes → f' ≡ f → k' ≡ k → (status ≡ Done) ⊎ (status ≡ Memory))
   done-of sole status text = go left
     where
-      go : (l : Option (List ℕ)) → IfSome l (λ bytes. Answers bytes status text × (SaysRead status → rest ≡ Some []))
+      go : (l : Option (List ℕ)) → IfSome l (λ bytes. Answers bytes status text × (Says status → rest ≡ Some []))
           → IfSome l (λ bytes. Accepts bytes → f' ≡ f → k' ≡ k → (status ≡ Done) ⊎ (status ≡ Memory))
       go None a = tt
       go (Some bytes) a = λ ok e e'. inl (sole bytes status text a.0 ok)
 
-  end-of : (status : Status) (text : List ℕ) → IsAnswered status text → IfSome left (λ bytes. SaysRead status → rest ≡ Some [])
+  end-of : (status : Status) (text : List ℕ) → IsAnswered status text → IfSome left (λ bytes. Says status → rest ≡ Some [])
   end-of status text = go left
     where
-      go : (l : Option (List ℕ)) → IfSome l (λ bytes. Answers bytes status text × (SaysRead status → rest ≡ Some []))
-          → IfSome l (λ bytes. SaysRead status → rest ≡ Some [])
+      go : (l : Option (List ℕ)) → IfSome l (λ bytes. Answers bytes status text × (Says status → rest ≡ Some []))
+          → IfSome l (λ bytes. Says status → rest ≡ Some [])
       go None a = tt
       go (Some bytes) a = a.1
 
-  due-of : (status : Status) (text : List ℕ) → IsAnswered status text → IsDue Answers left rest f f' text
+  due-of : (status : Status) (text : List ℕ) → IsAnswered status text → IsDue Answers Says left rest f f' text
   due-of status text a = inl (go left a)
     where
-      go : (l : Option (List ℕ)) → IfSome l (λ bytes. Answers bytes status text × (SaysRead status → rest ≡ Some []))
-          → IfSome l (λ bytes. (s : Status) × Answers bytes s text × (SaysRead s → rest ≡ Some []))
+      go : (l : Option (List ℕ)) → IfSome l (λ bytes. Answers bytes status text × (Says status → rest ≡ Some []))
+          → IfSome l (λ bytes. (s : Status) × Answers bytes s text × (Says s → rest ≡ Some []))
       go None a = tt
       go (Some bytes) a = (status, a.0, a.1)
 
   -- a verdict
   pub verdict_kept : ((bytes : List ℕ) (s : Status) (t : List ℕ) → Answers bytes s t → Accepts bytes → s ≡ Done) → (status result : Status) (text : List ℕ)
-      → k < 2 ^ 64 - 1 → IsVerdict status → IfSome left (λ bytes. Answers bytes status text × (SaysRead status → rest ≡ Some []))
-      → IsGiven held after k k' status text result → IsKept Answers Accepts left rest f f' held after k k' result
+      → k < 2 ^ 64 - 1 → IsVerdict status → IfSome left (λ bytes. Answers bytes status text × (Says status → rest ≡ Some []))
+      → IsGiven held after k k' status text result → IsKept Answers Accepts Says left rest f f' held after k k' result
   verdict_kept sole status result text small v a (inl g) =
-      subst (λ (s : Status). IsKept Answers Accepts left rest f f' held after k k' s) (sym g.0) (record {
+      subst (λ (s : Status). IsKept Answers Accepts Says left rest f f' held after k k' s) (sym g.0) (record {
         outcome = outcome-of status text a g.1;
         complete = done-of sole status text a;
         read = λ e. absurd (subst IsVerdict e v);
@@ -152,9 +152,19 @@ module _ (Answers : List ℕ → Status → List ℕ → Type 0) (Accepts : List
         to_end = end-of status text a;
       })
   verdict_kept sole status result text small v a (inr g) =
-      subst (λ (s : Status). IsKept Answers Accepts left rest f f' held after k k' s) (sym g.0) (cut_kept text small (due-of status text a) g.1 g.2)
+      subst (λ (s : Status). IsKept Answers Accepts Says left rest f f' held after k k' s) (sym g.0) (cut_kept text small (due-of status text a) g.1 g.2)
 
 -- ---- `complete`
+
+pub read-verdict : (status : Status) → SaysRead status → IsVerdict status
+read-verdict Done says = tt
+read-verdict Words says = absurd says
+read-verdict (Text line kind) says = tt
+read-verdict (Limit kind) says = tt
+read-verdict (Stopped at cause) says = tt
+read-verdict ReadFault says = absurd says
+read-verdict WriteFault says = absurd says
+read-verdict Memory says = absurd says
 
 pub complete-sole : (order : ℕ) (bytes : List ℕ) (status : Status) (text : List ℕ) → IsCompleteOutcome order bytes status text → IsAccepted order bytes → status ≡ Done
 complete-sole order bytes Done text t ok = refl
@@ -166,7 +176,7 @@ complete-sole order bytes (Limit kind) text t ok = absurd (passes t.0)
     passes (inl h) = let long = h.1 in let short = ok.short in omega (arith, long, short)
     passes (inr p) = none-some kind (sym (ok.no_limit p.file p.reads) ∙ p.passed)
 complete-sole order bytes (Stopped at cause) text t ok =
-    absurd (ok.no_stop t.file t.completed.given (at, cause_of cause) t.reads t.completed.lines t.completed.first)
+    absurd (ok.no_stop t.file t.completed.last.given (at, cause_of cause) t.reads t.completed.last.lines t.completed.last.first)
 complete-sole order bytes ReadFault text t ok = absurd t
 complete-sole order bytes WriteFault text t ok = absurd t
 complete-sole order bytes Memory text t ok = absurd t
@@ -202,41 +212,110 @@ long-answered order (Some bytes) rest long = ((inl (refl, long), refl), λ says.
 
 pub answer_kept : (order : ℕ) (left rest : Option (List ℕ)) (f f' : ℕ) (held after : Option (List ℕ)) (k k' : ℕ) (bytes seen text said : List ℕ) (status result : Status)
     → k < 2 ^ 64 - 1 → IsReadWhole left rest bytes → seen ≡ bytes → IsCompleteOutcome order seen status text → said ≡ text → IsGiven held after k k' status said result
-    → IsKept (IsCompleteOutcome order) (IsAccepted order) left rest f f' held after k k' result
+    → IsKept (IsCompleteOutcome order) (IsAccepted order) SaysRead left rest f f' held after k k' result
 answer_kept order left rest f f' held after k k' bytes seen text said status result small whole e t e' g =
-    verdict_kept (IsCompleteOutcome order) (IsAccepted order) left rest f f' held after k k' (complete-sole order) status result said small
+    verdict_kept (IsCompleteOutcome order) (IsAccepted order) SaysRead read-verdict left rest f f' held after k k' (complete-sole order) status result said small
     (complete-verdict order seen status text t)
     (read-answered order left rest bytes status said whole
     (subst (λ (b : List ℕ). IsCompleteOutcome order b status said) e (subst (λ (x : List ℕ). IsCompleteOutcome order seen status x) (sym e') t))) g
 
 pub long_kept : (order : ℕ) (left rest : Option (List ℕ)) (f f' : ℕ) (held after : Option (List ℕ)) (k k' : ℕ) (result : Status)
     → k < 2 ^ 64 - 1 → IsTooLong left → IsGiven held after k k' (Limit Bytes) (limit_fault_text Bytes) result
-    → IsKept (IsCompleteOutcome order) (IsAccepted order) left rest f f' held after k k' result
+    → IsKept (IsCompleteOutcome order) (IsAccepted order) SaysRead left rest f f' held after k k' result
 long_kept order left rest f f' held after k k' result small long g =
-    verdict_kept (IsCompleteOutcome order) (IsAccepted order) left rest f f' held after k k' (complete-sole order) (Limit Bytes) result (limit_fault_text Bytes) small tt
+    verdict_kept (IsCompleteOutcome order) (IsAccepted order) SaysRead read-verdict left rest f f' held after k k' (complete-sole order) (Limit Bytes) result (limit_fault_text Bytes) small tt
     (long-answered order left rest long) g
+
+-- ---- `generate`
+
+generate-sole : (number : ℕ) (status : Status) (text : List ℕ) → IsGenerateOutcome number status text → IsUnstopped number → status ≡ Done
+generate-sole number Done text t ok = refl
+generate-sole number Words text t ok = absurd t
+generate-sole number (Text line kind) text t ok = absurd t
+generate-sole number (Limit kind) text t ok = absurd t
+generate-sole number (Stopped at cause) text t ok = absurd (ok t.last.given (at, cause_of cause) t.last.lines t.last.first)
+generate-sole number ReadFault text t ok = absurd t
+generate-sole number WriteFault text t ok = absurd t
+generate-sole number Memory text t ok = absurd t
+
+generate-verdict : (number : ℕ) (status : Status) (text : List ℕ) → IsGenerateOutcome number status text → IsVerdict status
+generate-verdict number Done text t = tt
+generate-verdict number Words text t = tt
+generate-verdict number (Text line kind) text t = tt
+generate-verdict number (Limit kind) text t = tt
+generate-verdict number (Stopped at cause) text t = tt
+generate-verdict number ReadFault text t = absurd t
+generate-verdict number WriteFault text t = absurd t
+generate-verdict number Memory text t = absurd t
+
+quiet : (status : Status) → SaysNothing status → IsVerdict status
+quiet status says = absurd says
+
+-- what a job keeps that has no source
+abbrev pub IsKeptUnread : (Status → List ℕ → Type 0) → Type 0 → Option (List ℕ) → Option (List ℕ) → ℕ → ℕ → Status → Type 0
+IsKeptUnread Answers Accepts held after k k' result = IsKept (λ bytes. Answers) (λ bytes. Accepts) SaysNothing (Some []) (Some []) 0 0 held after k k' result
+
+pub generate_kept : (number : ℕ) (held after : Option (List ℕ)) (k k' : ℕ) (text said : List ℕ) (status result : Status)
+    → k < 2 ^ 64 - 1 → IsGenerateOutcome number status text → said ≡ text → IsGiven held after k k' status said result
+    → IsKeptUnread (IsGenerateOutcome number) (IsUnstopped number) held after k k' result
+generate_kept number held after k k' text said status result small t e g =
+    verdict_kept (λ bytes. IsGenerateOutcome number) (λ bytes. IsUnstopped number) SaysNothing quiet (Some []) (Some []) 0 0 held after k k'
+    (λ bytes s x y ok. generate-sole number s x y ok) status result said small (generate-verdict number status text t)
+    (subst (λ (x : List ℕ). IsGenerateOutcome number status x) (sym e) t, λ says. absurd says) g
+
+never-rose : Rose 0 0 → ⊥
+never-rose rose = omega (arith, rose)
+
+-- so it is kept with any source, too, which stays as it is
+pub any_source_kept : (Answers : Status → List ℕ → Type 0) (Accepts : Type 0) (left : Option (List ℕ)) (f : ℕ) (held after : Option (List ℕ)) (k k' : ℕ) (result : Status)
+    → IsKeptUnread Answers Accepts held after k k' result → IsKept (λ bytes. Answers) (λ bytes. Accepts) SaysNothing left left f f held after k k' result
+any_source_kept Answers Accepts left f held after k k' result p = record {
+  outcome = told _ left (λ bytes. p.outcome);
+  complete = told _ left (λ bytes ok e e'. p.complete ok refl e');
+  read = λ e. absurd (never-rose (p.read e));
+  read_text = p.read_text;
+  write = p.write;
+  write_text = λ e. let w = p.write_text e in (w.0, due w.0 w.1, w.2);
+  memory = p.memory;
+  memory_alone = λ e. (refl, (p.memory_alone e).1);
+  to_end = told _ left (λ bytes says. absurd says);
+}
+  where
+    due : (text : List ℕ) → IsDue (λ bytes. Answers) SaysNothing (Some []) (Some []) 0 0 text → IsDue (λ bytes. Answers) SaysNothing left left f f text
+    due text (inl h) = inl (told _ left (λ bytes. (h.0, h.1, λ says. absurd says)))
+    due text (inr h) = absurd (never-rose h.0)
 
 -- ---- the table of jobs
 
-pub same_order : (words : List (List ℕ)) (o w o' w' : ℕ) → AreCompleteWords words o w → AreCompleteWords words o' w' → o ≡ o'
-same_order words o w o' w' a b =
-    let e : codes "complete" ∷ decimal o ∷ decimal w ∷ [] ≡ codes "complete" ∷ decimal o' ∷ decimal w' ∷ [] = sym a.words ∙ b.words in
-    let x = a.order_most in let y = b.order_most in
-    decimal_injective o o' (omega (arith, x)) (omega (arith, y)) cc
-
 accepted-same : (words : List (List ℕ)) (job other : Job) (bytes : List ℕ) → AreWordsOf words job → AreWordsOf words other → IsJobAccepted other bytes → IsJobAccepted job bytes
-accepted-same words (Complete o w) (Complete o' w') bytes a b ok = subst (λ (n : ℕ). IsAccepted n bytes) (same_order words o' w' o w b a) ok
+accepted-same words job other bytes a b ok = subst (λ (j : Job). IsJobAccepted j bytes) (one-job words job other a b) ok
 
 pub outcome-same : (words : List (List ℕ)) (job other : Job) (bytes : List ℕ) (status : Status) (text : List ℕ)
     → AreWordsOf words job → AreWordsOf words other → IsJobOutcome other bytes status text → IsJobOutcome job bytes status text
-outcome-same words (Complete o w) (Complete o' w') bytes status text a b h =
-    subst (λ (n : ℕ). IsCompleteOutcome n bytes status text) (same_order words o' w' o w b a) h
+outcome-same words job other bytes status text a b h = subst (λ (j : Job). IsJobOutcome j bytes status text) (one-job words job other a b) h
 
-pub job-sole : (job : Job) (bytes : List ℕ) (status : Status) (text : List ℕ) → IsJobOutcome job bytes status text → IsJobAccepted job bytes → status ≡ Done
+says-same : (words : List (List ℕ)) (job other : Job) (status : Status) → AreWordsOf words job → AreWordsOf words other → SaysJobRead other status → SaysJobRead job status
+says-same words job other status a b says = subst (λ (j : Job). SaysJobRead j status) (one-job words job other a b) says
+
+job-sole : (job : Job) (bytes : List ℕ) (status : Status) (text : List ℕ) → IsJobOutcome job bytes status text → IsJobAccepted job bytes → status ≡ Done
 job-sole (Complete o w) bytes status text t ok = complete-sole o bytes status text t ok
+job-sole (Generate n) bytes status text t ok = generate-sole n status text t ok
 
 job-not_words : (job : Job) (bytes text : List ℕ) → IsJobOutcome job bytes Words text → ⊥
 job-not_words (Complete o w) bytes text t = t
+job-not_words (Generate n) bytes text t = t
+
+job-verdict : (job : Job) (status : Status) → SaysJobRead job status → IsVerdict status
+job-verdict (Complete o w) status says = read-verdict status says
+job-verdict (Generate n) status says = absurd says
+
+pub run-verdict : (words : List (List ℕ)) (status : Status) → SaysRunRead words status → IsVerdict status
+run-verdict words status says = job-verdict says.0 status says.2
+
+-- none says that it read where the words are refused
+job-reads_words : (job : Job) → SaysJobRead job Words → ⊥
+job-reads_words (Complete o w) says = says
+job-reads_words (Generate n) says = says
 
 -- ---- the words
 
@@ -263,15 +342,15 @@ run-outcome words job bytes Memory text a h = (job, a, h)
 
 -- words of no job
 pub words_kept : (words : List (List ℕ)) (left : Option (List ℕ)) (f : ℕ) (held after : Option (List ℕ)) (k k' : ℕ) (result : Status) → k < 2 ^ 64 - 1 → NameNoJob words
-    → IsGiven held after k k' Words words_fault_text result → IsKept (IsRunOutcome words) (IsRunAccepted words) left left f f held after k k' result
+    → IsGiven held after k k' Words words_fault_text result → IsKept (IsRunOutcome words) (IsRunAccepted words) (SaysRunRead words) left left f f held after k k' result
 words_kept words left f held after k k' result small none g =
-    verdict_kept (IsRunOutcome words) (IsRunAccepted words) left left f f held after k k' (run-sole words) Words result words_fault_text small tt
-    (told _ left (λ bytes. ((none, refl), λ says. absurd says))) g
+    verdict_kept (IsRunOutcome words) (IsRunAccepted words) (SaysRunRead words) (run-verdict words) left left f f held after k k' (run-sole words) Words result words_fault_text small tt
+    (told _ left (λ bytes. ((none, refl), λ says. absurd (job-reads_words says.0 says.2)))) g
 
 -- words of a job
 pub job_kept : (words : List (List ℕ)) (job : Job) (left rest : Option (List ℕ)) (f f' : ℕ) (held after : Option (List ℕ)) (k k' : ℕ) (result : Status) → AreWordsOf words job
-    → IsKept (IsJobOutcome job) (IsJobAccepted job) left rest f f' held after k k' result
-    → IsKept (IsRunOutcome words) (IsRunAccepted words) left rest f f' held after k k' result
+    → IsKept (IsJobOutcome job) (IsJobAccepted job) (SaysJobRead job) left rest f f' held after k k' result
+    → IsKept (IsRunOutcome words) (IsRunAccepted words) (SaysRunRead words) left rest f f' held after k k' result
 job_kept words job left rest f f' held after k k' result a p = record {
   outcome = outcome left p.outcome;
   complete = complete left p.complete;
@@ -281,9 +360,12 @@ job_kept words job left rest f f' held after k k' result a p = record {
   write_text = λ e. let w = p.write_text e in (w.0, due left w.0 w.1, w.2);
   memory = p.memory;
   memory_alone = p.memory_alone;
-  to_end = p.to_end;
+  to_end = to_end left p.to_end;
 }
   where
+    says : (status : Status) → SaysRunRead words status → SaysJobRead job status
+    says status s = says-same words job s.0 status a s.1 s.2
+
     outcome : (l : Option (List ℕ)) → IfSome l (λ bytes. IsVerdict result → (t : List ℕ) × IsJobOutcome job bytes result t × IsWritten held after t)
         → IfSome l (λ bytes. IsVerdict result → (t : List ℕ) × IsRunOutcome words bytes result t × IsWritten held after t)
     outcome None h = tt
@@ -294,16 +376,11 @@ job_kept words job left rest f f' held after k k' result a p = record {
     complete None h = tt
     complete (Some bytes) h = λ ok. h (accepted-same words job ok.0 bytes a ok.1 ok.2)
 
-    due : (l : Option (List ℕ)) (text : List ℕ) → IsDue (IsJobOutcome job) l rest f f' text → IsDue (IsRunOutcome words) l rest f f' text
+    due : (l : Option (List ℕ)) (text : List ℕ) → IsDue (IsJobOutcome job) (SaysJobRead job) l rest f f' text → IsDue (IsRunOutcome words) (SaysRunRead words) l rest f f' text
     due None text (inl h) = inl tt
-    due (Some bytes) text (inl h) = inl (h.0, run-outcome words job bytes h.0 text a h.1, h.2)
+    due (Some bytes) text (inl h) = inl (h.0, run-outcome words job bytes h.0 text a h.1, λ s. h.2 (says h.0 s))
     due l text (inr h) = inr h
 
--- words of `complete`, whose order is read off the job
-pub complete_words_kept : (words : List (List ℕ)) (order_of : Job → ℕ) (job : Job) (left rest : Option (List ℕ)) (f f' : ℕ) (held after : Option (List ℕ)) (k k' : ℕ) (result : Status)
-    → ((order workers : ℕ) → order_of (Complete order workers) ≡ order) → AreWordsOf words job
-    → IsKept (IsCompleteOutcome (order_of job)) (IsAccepted (order_of job)) left rest f f' held after k k' result
-    → IsKept (IsRunOutcome words) (IsRunAccepted words) left rest f f' held after k k' result
-complete_words_kept words order_of (Complete o w) left rest f f' held after k k' result e a p =
-    job_kept words (Complete o w) left rest f f' held after k k' result a
-    (subst (λ (n : ℕ). IsKept (IsCompleteOutcome n) (IsAccepted n) left rest f f' held after k k' result) (e o w) p)
+    to_end : (l : Option (List ℕ)) → IfSome l (λ bytes. SaysJobRead job result → rest ≡ Some []) → IfSome l (λ bytes. SaysRunRead words result → rest ≡ Some [])
+    to_end None h = tt
+    to_end (Some bytes) h = λ s. h (says result s)

@@ -1,50 +1,90 @@
 -- Lists of words that name a job, and of words that name none.
-use Rattle.std.proofs.Common.{◌≡◌, ◌∙◌, ◌<◌, ◌+◌, ◌==◌, ◌/◌, ◌%◌, ℕ, Bool, true, false, List, [], ◌∷◌, length, Option, Some, None, refl, sym, ap, subst, codes, arith, nat_lt, lt-ltb}
+use Rattle.std.proofs.Common.{◌≡◌, ◌∙◌, ◌<◌, ◌≤◌, ◌+◌, ◌^◌, ◌==◌, ◌%◌, ◌++◌, ℕ, Bool, true, false, List, [], ◌∷◌, length, Option, Some, None, refl, sym, ap, subst, codes, arith, append_assoc, append-nil}
 use Rattle.std.specs.Prelude.{IfNone, decimal}
 use Rattle.std.specs.List.{list_any}
 use Rattle.std.proofs.lemmas.Bool.Decides.{nat_tests}
+use Rattle.std.proofs.lemmas.Fmt.{decimal_by_steps, decimal_injective}
 use Rattle.clap.specs.Lexer.{strip_byte}
-use Rattle.clap.specs.Matches.{count_text}
-use Rattle.clap.proofs.CountText.{decimal-count_text}
 use Rattle.scatter_run.specs.CommandLine.{begins_with_hyphen, command_line}
 use Rattle.clap.specs.Words.{takes}
-use Rattle.scatter_run.specs.Words.{AreWordsOf, NameNoJob}
+use Rattle.scatter_run.specs.Words.{AreCompleteWords, AreGenerateWords, AreWordsOf, NameNoJob}
 use Rattle.scatter_run.specs.declared.words.Job.{Job}
-use Rattle.scatter_run.specs.declared.words.Job.TheVariants.{Complete}
+use Rattle.scatter_run.specs.declared.words.Job.TheVariants.{Complete, Generate}
 use Rattle.scatter_run.proofs.CommandLine.{IsPlain, ArePlain, taken}
 
 pub if-none : {A : Type 0} (o : Option A) (P : Type 0) → P → IfNone o P
 if-none None P p = p
 if-none (Some a) P p = tt
 
--- each job has a word and two numbers
-pub names-none : (words : List (List ℕ)) → (length words ≡ 3 → ⊥) → NameNoJob words
-names-none words n (Complete o w) a = n (ap length a.words)
+-- ---- words of no job
+
+-- each job has a word, and one or two numbers
+pub names-none : (words : List (List ℕ)) → (length words ≡ 2 → ⊥) → (length words ≡ 3 → ⊥) → NameNoJob words
+names-none words two three (Complete o w) a = three (ap length a.words)
+names-none words two three (Generate n) a = two (ap length a.words)
+
+-- ---- words name one job
+
+apart : (words : List (List ℕ)) (o w n : ℕ) → AreCompleteWords words o w → AreGenerateWords words n → ⊥
+apart words o w n a b =
+    let l : length words ≡ 3 = ap length a.words in
+    let k : length words ≡ 2 = ap length b.words in
+    omega (arith, l, k)
+
+pub same-number : (words : List (List ℕ)) (n m : ℕ) → AreGenerateWords words n → AreGenerateWords words m → n ≡ m
+same-number words n m a b =
+    let e : codes "generate" ∷ decimal n ∷ [] ≡ codes "generate" ∷ decimal m ∷ [] = sym a.words ∙ b.words in
+    let x = a.number_most in let y = b.number_most in
+    decimal_injective n m (omega (arith, x)) (omega (arith, y)) cc
+
+pub one-job : (words : List (List ℕ)) (job other : Job) → AreWordsOf words job → AreWordsOf words other → other ≡ job
+one-job words (Complete o w) (Complete o' w') a b =
+    let e : codes "complete" ∷ decimal o' ∷ decimal w' ∷ [] ≡ codes "complete" ∷ decimal o ∷ decimal w ∷ [] = sym b.words ∙ a.words in
+    let x = a.order_most in let y = b.order_most in
+    let u = a.workers_most in let v = b.workers_most in
+    let f : o' ≡ o = decimal_injective o' o (omega (arith, y)) (omega (arith, x)) cc in
+    let g : w' ≡ w = decimal_injective w' w (omega (arith, v)) (omega (arith, u)) cc in
+    λ i. Complete (f i) (g i)
+one-job words (Complete o w) (Generate n) a b = absurd (apart words o w n a b)
+one-job words (Generate n) (Complete o w) a b = absurd (apart words o w n b a)
+one-job words (Generate n) (Generate m) a b = ap (λ (k : ℕ). Generate k) (same-number words m n b a)
 
 -- ---- no job's word begins with a hyphen
 
 digit-plain : (d : ℕ) (rest : List ℕ) → IsPlain ((48 + d) ∷ rest)
 digit-plain d rest = let e : ((48 + d) == 45) ≡ false = grind (arith, nat_tests) in rw e refl
 
-count-plain : (n : ℕ) → n < 100 → IsPlain (count_text n)
-count-plain n l = go (nat_lt n 10) refl
-  where
-    go : (b : Bool) → nat_lt n 10 ≡ b → IsPlain (count_text n)
-    go true e = rw e (digit-plain n [])
-    go false e = rw (e, lt-ltb n 100 l) (digit-plain (n / 10) ((48 + n % 10) ∷ []))
+-- whatever follows
+abbrev BeginsPlain : List ℕ → Type 0
+BeginsPlain word = (rest : List ℕ) → IsPlain (word ++ rest)
 
-decimal-plain : (n : ℕ) → n < 100 → IsPlain (decimal n)
-decimal-plain n l = subst IsPlain (sym (decimal-count_text n (omega (arith, l)))) (count-plain n l)
+decimal-begins : (n : ℕ) → n < 2 ^ 64 → BeginsPlain (decimal n)
+decimal-begins = decimal_by_steps (λ (n : ℕ) (ds : List ℕ). BeginsPlain ds) one more
+  where
+    one : (n : ℕ) → n < 10 → BeginsPlain ((48 + n) ∷ [])
+    one n l rest = digit-plain n rest
+
+    more : (n : ℕ) (ds : List ℕ) → 10 ≤ n → BeginsPlain ds → BeginsPlain (ds ++ ((48 + n % 10) ∷ []))
+    more n ds l h rest = subst IsPlain (sym (append_assoc ds ((48 + n % 10) ∷ []) rest)) (h ((48 + n % 10) ∷ rest))
+
+decimal-plain : (n : ℕ) → n < 2 ^ 64 → IsPlain (decimal n)
+decimal-plain n l = subst IsPlain (append-nil (decimal n)) (decimal-begins n l [])
 
 pub job-plain : (words : List (List ℕ)) (job : Job) → AreWordsOf words job → ArePlain words
 job-plain words (Complete o w) a =
     let x = a.order_most in let y = a.workers_most in
     subst ArePlain (sym a.words) (refl, (decimal-plain o (omega (arith, x)), (decimal-plain w (omega (arith, y)), tt)))
+job-plain words (Generate n) a =
+    let x = a.number_most in
+    subst ArePlain (sym a.words) (refl, (decimal-plain n (omega (arith, x)), tt))
 
 pub job-taken : (words : List (List ℕ)) (job : Job) → AreWordsOf words job → takes command_line words ≡ true
 job-taken words (Complete o w) a =
     let p = subst ArePlain a.words (job-plain words (Complete o w) a) in
     subst (λ (ws : List (List ℕ)). takes command_line ws ≡ true) (sym a.words) (taken (codes "complete") (decimal o ∷ decimal w ∷ []) p.0 p.1 refl)
+job-taken words (Generate n) a =
+    let p = subst ArePlain a.words (job-plain words (Generate n) a) in
+    subst (λ (ws : List (List ℕ)). takes command_line ws ≡ true) (sym a.words) (taken (codes "generate") (decimal n ∷ []) p.0 p.1 refl)
 
 -- ---- the test for such words
 

@@ -1,4 +1,5 @@
 pub mod Completed
+pub mod Generated
 pub mod Outcome
 pub mod Promise
 pub mod Reading

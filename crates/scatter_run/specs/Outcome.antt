@@ -12,12 +12,13 @@ use Rattle.scatter_text.specs.declared.fault.LimitKind.TheVariants.{Bytes}
 use Rattle.scatter_text.specs.declared.fault.TextKind.{TextKind}
 use Rattle.scatter_text.specs.Grammar.{IsTextOf, IsTextFault, kind_word}
 use Rattle.scatter_text.specs.Limits.{limit_of, limit_word}
-use Rattle.scatter_run.specs.Completed.{IsCompletedText}
+use Rattle.scatter_run.specs.Completed.{IsCompletedText, IsSummary}
+use Rattle.scatter_run.specs.Generated.{generated_lines, generated_order}
 use Rattle.scatter_text.specs.DiagramText.{line_of}
 use Rattle.scatter_text.specs.GivenWalls.{IsWallOf}
 use Rattle.scatter_run.specs.Words.{AreWordsOf, NameNoJob}
 use Rattle.scatter_run.specs.declared.words.Job.{Job}
-use Rattle.scatter_run.specs.declared.words.Job.TheVariants.{Complete}
+use Rattle.scatter_run.specs.declared.words.Job.TheVariants.{Complete, Generate}
 use Rattle.scatter_run.specs.declared.status.Status.{Status}
 use Rattle.scatter_run.specs.declared.status.Status.TheVariants.{Done, Words, Text, Limit, Stopped, ReadFault, WriteFault, Memory}
 
@@ -91,24 +92,17 @@ pub record IsAccepted (order : ℕ) (bytes : List ℕ) : Type 0 where
   pub no_stop : (file : TextFile) (given : List Wall) (stop : ℕ × StopCause)
       → IsTextOf bytes file → AllZip IsWallOf file.lines given → IsFirstStop given order (Some stop) → ⊥
 
--- ---- the table of jobs
+-- ---- what `generate` answers, which reads no bytes
 
--- what each job answers, and the text that it prints
-abbrev pub IsJobOutcome : Job → List ℕ → Status → List ℕ → Type 0
-IsJobOutcome (Complete order workers) = IsCompleteOutcome order
+-- what it answers on this number, and the text that it prints
+abbrev pub IsGenerateOutcome : ℕ → Status → List ℕ → Type 0
+IsGenerateOutcome number Done text = IsSummary number None text
+IsGenerateOutcome number (Stopped at cause) text = IsSummary number (Some (at, cause_of cause)) text
+IsGenerateOutcome number status text = ⊥
 
--- the bytes that each job accepts
-abbrev pub IsJobAccepted : Job → List ℕ → Type 0
-IsJobAccepted (Complete order workers) = IsAccepted order
-
--- the words are those of a job, whose outcome it is; or they are of none
-abbrev pub IsRunOutcome : List (List ℕ) → List ℕ → Status → List ℕ → Type 0
-IsRunOutcome words bytes Words text = NameNoJob words × (text ≡ words_fault_text)
-IsRunOutcome words bytes status text = (job : Job) × AreWordsOf words job × IsJobOutcome job bytes status text
-
--- the words are those of a job that accepts the bytes
-abbrev pub IsRunAccepted : List (List ℕ) → List ℕ → Type 0
-IsRunAccepted words bytes = (job : Job) × AreWordsOf words job × IsJobAccepted job bytes
+-- nothing stops the completion of the lines that are made from the number
+abbrev pub IsUnstopped : ℕ → Type 0
+IsUnstopped number = (given : List Wall) (stop : ℕ × StopCause) → AllZip IsWallOf (generated_lines number) given → IsFirstStop given generated_order (Some stop) → ⊥
 
 -- ---- statuses
 
@@ -119,13 +113,17 @@ IsVerdict WriteFault = ⊥
 IsVerdict Memory = ⊥
 IsVerdict status = Unit {0}
 
--- it says that the source was read to its end
+-- of a job that reads: it says that the source was read to its end
 abbrev pub SaysRead : Status → Type 0
 SaysRead Done = Unit {0}
 SaysRead (Text line kind) = Unit {0}
 SaysRead (Stopped order cause) = Unit {0}
 SaysRead (Limit kind) = kind ≢ Bytes
 SaysRead status = ⊥
+
+-- of a job that doesn't read: none says so
+abbrev pub SaysNothing : Status → Type 0
+SaysNothing status = ⊥
 
 abbrev pub code_of : Status → ℕ
 code_of Done = 0
@@ -136,3 +134,33 @@ code_of (Stopped order cause) = 4
 code_of ReadFault = 5
 code_of WriteFault = 6
 code_of Memory = 7
+
+-- ---- the table of jobs
+
+-- what each job answers, and the text that it prints
+abbrev pub IsJobOutcome : Job → List ℕ → Status → List ℕ → Type 0
+IsJobOutcome (Complete order workers) = IsCompleteOutcome order
+IsJobOutcome (Generate number) = λ bytes. IsGenerateOutcome number
+
+-- the bytes that each job accepts
+abbrev pub IsJobAccepted : Job → List ℕ → Type 0
+IsJobAccepted (Complete order workers) = IsAccepted order
+IsJobAccepted (Generate number) = λ bytes. IsUnstopped number
+
+-- the statuses by which each job says that its source was read to its end
+abbrev pub SaysJobRead : Job → Status → Type 0
+SaysJobRead (Complete order workers) = SaysRead
+SaysJobRead (Generate number) = SaysNothing
+
+-- the words are those of a job, whose outcome it is; or they are of none
+abbrev pub IsRunOutcome : List (List ℕ) → List ℕ → Status → List ℕ → Type 0
+IsRunOutcome words bytes Words text = NameNoJob words × (text ≡ words_fault_text)
+IsRunOutcome words bytes status text = (job : Job) × AreWordsOf words job × IsJobOutcome job bytes status text
+
+-- the words are those of a job that accepts the bytes
+abbrev pub IsRunAccepted : List (List ℕ) → List ℕ → Type 0
+IsRunAccepted words bytes = (job : Job) × AreWordsOf words job × IsJobAccepted job bytes
+
+-- the words are those of a job that says so
+abbrev pub SaysRunRead : List (List ℕ) → Status → Type 0
+SaysRunRead words status = (job : Job) × AreWordsOf words job × SaysJobRead job status

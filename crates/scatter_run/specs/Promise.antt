@@ -1,7 +1,7 @@
 -- What a job keeps of its source, its sink and its status.
 use Rattle.std.specs.Prelude.{◌≡◌, ℕ, ◌⊎◌, List, [], Option, Some, IfSome}
 use Rattle.outside_io.specs.Outside.{Rose}
-use Rattle.scatter_run.specs.Outcome.{IsRunOutcome, IsVerdict, SaysRead, read_fault_text}
+use Rattle.scatter_run.specs.Outcome.{IsRunOutcome, IsVerdict, SaysNothing, read_fault_text}
 use Rattle.scatter_run.specs.Writing.{IsWritten, IsCutShort}
 use Rattle.scatter_run.specs.declared.status.Status.{Status}
 use Rattle.scatter_run.specs.declared.status.Status.TheVariants.{Done, ReadFault, WriteFault, Memory}
@@ -15,14 +15,14 @@ abbrev pub HasWrittenPart : Option (List ℕ) → Option (List ℕ) → (List �
 HasWrittenPart before after P = (text : List ℕ) × P text × IsCutShort before after text
 
 -- the text of an outcome of these bytes, which were read to their end where its status says so, or of a read fault that was counted
-abbrev pub IsDue : (List ℕ → Status → List ℕ → Type 0) → Option (List ℕ) → Option (List ℕ) → ℕ → ℕ → List ℕ → Type 0
-IsDue Answers left rest before now text =
-    IfSome left (λ bytes. (status : Status) × Answers bytes status text × (SaysRead status → rest ≡ Some []))
+abbrev pub IsDue : (List ℕ → Status → List ℕ → Type 0) → (Status → Type 0) → Option (List ℕ) → Option (List ℕ) → ℕ → ℕ → List ℕ → Type 0
+IsDue Answers Says left rest before now text =
+    IfSome left (λ bytes. (status : Status) × Answers bytes status text × (Says status → rest ≡ Some []))
     ⊎ (Rose before now × (text ≡ read_fault_text))
 
--- What holds of a job with these outcomes, which accepts these bytes, by the source's bytes and faults and the
--- sink's bytes and faults, each before and after.
-pub record IsKept (Answers : List ℕ → Status → List ℕ → Type 0) (Accepts : List ℕ → Type 0)
+-- What holds of a job with these outcomes, which accepts these bytes and says by these statuses that it read to the
+-- end, by the source's bytes and faults and the sink's bytes and faults, each before and after.
+pub record IsKept (Answers : List ℕ → Status → List ℕ → Type 0) (Accepts : List ℕ → Type 0) (Says : Status → Type 0)
     (left rest : Option (List ℕ)) (misread misread' : ℕ) (held after : Option (List ℕ)) (refused refused' : ℕ) (status : Status) : Type 0 where
   -- the status is that of the outcome of the bytes, and the outcome's text was written
   pub outcome : IfSome left (λ bytes. IsVerdict status → HasWritten held after (Answers bytes status))
@@ -33,18 +33,27 @@ pub record IsKept (Answers : List ℕ → Status → List ℕ → Type 0) (Accep
   pub read_text : status ≡ ReadFault → HasWritten held after (λ text. text ≡ read_fault_text)
   -- a write fault is answered only where it was counted, after a part of what was due
   pub write : status ≡ WriteFault → Rose refused refused'
-  pub write_text : status ≡ WriteFault → HasWrittenPart held after (IsDue Answers left rest misread misread')
+  pub write_text : status ≡ WriteFault → HasWrittenPart held after (IsDue Answers Says left rest misread misread')
   -- want of memory comes before the first write, and where nothing failed
   pub memory : status ≡ Memory → after ≡ held
   pub memory_alone : status ≡ Memory → (misread' ≡ misread) × (refused' ≡ refused)
   -- the source was read to its end
-  pub to_end : IfSome left (λ bytes. SaysRead status → rest ≡ Some [])
+  pub to_end : IfSome left (λ bytes. Says status → rest ≡ Some [])
 
 -- the same of a source and a sink by how they are seen
 abbrev pub KeepsPromise : {S K : Type 0} → (S → Option (List ℕ)) → (S → ℕ) → (K → Option (List ℕ)) → (K → ℕ) → S → S → K → K
-    → (List ℕ → Status → List ℕ → Type 0) → (List ℕ → Type 0) → Status → Type 0
-KeepsPromise left misread held refused source source' sink sink' Answers Accepts status =
-    IsKept Answers Accepts (left source) (left source') (misread source) (misread source') (held sink) (held sink') (refused sink) (refused sink') status
+    → (List ℕ → Status → List ℕ → Type 0) → (List ℕ → Type 0) → (Status → Type 0) → Status → Type 0
+KeepsPromise left misread held refused source source' sink sink' Answers Accepts Says status =
+    IsKept Answers Accepts Says (left source) (left source') (misread source) (misread source') (held sink) (held sink') (refused sink) (refused sink') status
+
+-- the same of a job that has no source, whose outcomes no bytes decide: it is kept as with an empty source that never fails
+abbrev pub KeepsPromiseUnread : {K : Type 0} → (K → Option (List ℕ)) → (K → ℕ) → K → K → (Status → List ℕ → Type 0) → Type 0 → Status → Type 0
+KeepsPromiseUnread held refused sink sink' Answers Accepts status =
+    IsKept (λ bytes. Answers) (λ bytes. Accepts) SaysNothing (Some []) (Some []) 0 0 (held sink) (held sink') (refused sink) (refused sink') status
+
+-- the source is as it was
+abbrev pub IsUntouched : {S : Type 0} → (S → Option (List ℕ)) → (S → ℕ) → S → S → Type 0
+IsUntouched left misread source source' = (left source' ≡ left source) × (misread source' ≡ misread source)
 
 -- an outcome of the words and the bytes that are left has this status, and its text was written
 abbrev pub IsOnlyOutcome : List (List ℕ) → Option (List ℕ) → Option (List ℕ) → Option (List ℕ) → Status → Type 0

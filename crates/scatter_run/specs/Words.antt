@@ -3,7 +3,11 @@ use Rattle.std.specs.Prelude.{◌≡◌, ℕ, ◌≤◌, List, [], ◌∷◌, ma
 use Rattle.std.specs.declared.alloc.Global.{Global}
 use Rattle.limits.specs.Limits.{highest_order, most_workers}
 use Rattle.scatter_run.specs.declared.words.Job.{Job}
-use Rattle.scatter_run.specs.declared.words.Job.TheVariants.{Complete}
+use Rattle.scatter_run.specs.declared.words.Job.TheVariants.{Complete, Generate}
+
+-- the largest number that `generate` takes
+abbrev pub largest_number : ℕ
+largest_number = 1000000
 
 abbrev pub word_bytes : List (String Global) → List (List ℕ)
 word_bytes words = map (λ w. string_bytes w) words
@@ -15,9 +19,16 @@ pub record AreCompleteWords (given : List (List ℕ)) (order workers : ℕ) : Ty
   pub workers_least : 1 ≤ workers
   pub workers_most : workers ≤ most_workers
 
+-- `generate N`, likewise
+pub record AreGenerateWords (given : List (List ℕ)) (number : ℕ) : Type 0 where
+  pub words : given ≡ codes "generate" ∷ decimal number ∷ []
+  pub number_least : 1 ≤ number
+  pub number_most : number ≤ largest_number
+
 -- the table of words: those of each job
 abbrev pub AreWordsOf : List (List ℕ) → Job → Type 0
 AreWordsOf words (Complete order workers) = AreCompleteWords words order workers
+AreWordsOf words (Generate number) = AreGenerateWords words number
 
 -- the words are those of no job
 abbrev pub NameNoJob : List (List ℕ) → Type 0

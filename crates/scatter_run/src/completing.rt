@@ -14,7 +14,7 @@ use std::alloc::{AllocError, Global};
 use std::thread::Threads;
 
 /// The status of a completion with the first stop, if there is one.
-fn status_of(stop: Option<(u32, StopCause)>) -> Status
+pub(crate) fn status_of(stop: Option<(u32, StopCause)>) -> Status
     ensures { ends_with stop ≡ result }
 {
     match stop {

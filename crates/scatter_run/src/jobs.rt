@@ -1,12 +1,13 @@
 //! From words and bytes to the status and the text that is written.
-ghost use Rattle.std.specs.Prelude.{◌≡◌, ◌≤◌, ◌<◌, ◌-◌, ◌^◌, ◌⊎◌};
+ghost use Rattle.std.specs.Prelude.{◌≡◌, ℕ, ◌≤◌, ◌<◌, ◌-◌, ◌^◌, ◌⊎◌};
 ghost use Rattle.limits.specs.Limits.{highest_order, most_workers};
-ghost use Rattle.scatter_run.specs.Words.{NameNoJob, word_bytes};
+ghost use Rattle.scatter_run.specs.Words.{AreGenerateWords, NameNoJob, word_bytes};
 ghost use Rattle.scatter_run.specs.Writing.{IsWritten, IsCutShort};
-ghost use Rattle.scatter_run.specs.Outcome.{IsCompleteOutcome, IsAccepted, IsRunOutcome, IsRunAccepted, words_fault_text};
-ghost use Rattle.scatter_run.specs.Promise.{KeepsPromise, IsOnlyOutcome, IsGiven};
+ghost use Rattle.scatter_run.specs.Outcome.{IsCompleteOutcome, IsAccepted, SaysRead, IsGenerateOutcome, IsUnstopped, IsRunOutcome, IsRunAccepted, SaysRunRead, words_fault_text};
+ghost use Rattle.scatter_run.specs.Promise.{KeepsPromise, KeepsPromiseUnread, IsUntouched, IsOnlyOutcome, IsGiven};
 
 use crate::answer::answer_to;
+use crate::generating::generate;
 use crate::reading::{InputFault, read_input};
 use crate::status::Status;
 use crate::words::{Job, read_words};
@@ -32,11 +33,19 @@ pub fn run<R: Threads + Sync, S: Source, K: Sink, G: Gate>(
 
     // What every job promises, of the outcomes of the words.
     ensures promise { KeepsPromise S.left S.faults K.held K.faults source.old source.new
-        sink.old sink.new (IsRunOutcome (word_bytes words.now)) (IsRunAccepted (word_bytes words.now)) result }
+        sink.old sink.new (IsRunOutcome (word_bytes words.now)) (IsRunAccepted (word_bytes words.now))
+        (SaysRunRead (word_bytes words.now)) result }
 
     // It is the only outcome of words and bytes, for any number of workers.
     ensures one { IsOnlyOutcome (word_bytes words.now) (S.left source.old)
         (K.held sink.old) (K.held sink.new) result }
+
+    // What `generate` promises holds for every source, which isn't touched.
+    ensures generate { (number : ℕ) → AreGenerateWords (word_bytes words.now) number
+        → KeepsPromiseUnread K.held K.faults sink.old sink.new (IsGenerateOutcome number)
+        (IsUnstopped number) result }
+    ensures untouched { (number : ℕ) → AreGenerateWords (word_bytes words.now) number
+        → IsUntouched S.left S.faults source.old source.new }
 
     // Words are refused exactly where they name no job, and by their text alone.
     ensures words { result ≡ Status.Words → NameNoJob (word_bytes words.now) }
@@ -53,6 +62,7 @@ pub fn run<R: Threads + Sync, S: Source, K: Sink, G: Gate>(
         Ok(Some(Job::Complete { order, workers })) => {
             complete_job(rt, alloc, order, workers, source, sink, gate)
         }
+        Ok(Some(Job::Generate { number })) => generate_job(rt, alloc, number, sink, gate),
         Ok(None) => give(sink, Status::Words, b"fault words\n"),
         Err(_) => Status::Memory,
     }
@@ -77,7 +87,7 @@ pub fn complete_job<R: Threads + Sync, S: Source, K: Sink, G: Gate>(
     requires sink { K.faults sink.old < 2 ^ 64 - 1 }
 
     ensures promise { KeepsPromise S.left S.faults K.held K.faults source.old source.new
-        sink.old sink.new (IsCompleteOutcome order) (IsAccepted order) result }
+        sink.old sink.new (IsCompleteOutcome order) (IsAccepted order) SaysRead result }
     ensures no_words { result ≡ Status.Words → ⊥ }
 {
     match read_input(alloc, source) {
@@ -91,6 +101,30 @@ pub fn complete_job<R: Threads + Sync, S: Source, K: Sink, G: Gate>(
             let which = LimitKind::Bytes;
             give(sink, Status::Limit { which }, b"fault limit bytes\n")
         }
+    }
+}
+
+/// `generate`: makes lines from the number, and prints how many rays their completion at order 4 has, and
+/// how many terms these have. Four workers compute it. The gate is told of each task before a worker begins
+/// it.
+pub fn generate_job<R: Threads + Sync, K: Sink, G: Gate>(
+    rt: &R,
+    alloc: Global,
+    number: u32,
+    sink: &mut K,
+    gate: &G,
+) -> Status
+    // The first fault is a rise.
+    requires { K.faults sink.old < 2 ^ 64 - 1 }
+
+    ensures promise { KeepsPromiseUnread K.held K.faults sink.old sink.new
+        (IsGenerateOutcome number) (IsUnstopped number) result }
+    ensures no_words { result ≡ Status.Words → ⊥ }
+    ensures no_read { result ≡ Status.ReadFault → ⊥ }
+{
+    match generate(rt, alloc, number, gate) {
+        Ok(answer) => give(sink, answer.status, answer.text.as_slice()),
+        Err(_) => Status::Memory,
     }
 }
 

@@ -3,6 +3,8 @@
 
 mod answer;
 mod completing;
+mod generating;
+mod generator;
 mod jobs;
 mod laws;
 mod reading;
@@ -11,6 +13,6 @@ mod words;
 mod workers;
 mod writing;
 
-pub use jobs::{complete_job, run};
+pub use jobs::{complete_job, generate_job, run};
 pub use laws::one_outcome;
 pub use status::Status;

@@ -1,5 +1,5 @@
 //! Reads the words after the program's name, as a command line of one word and numbers.
-ghost use Rattle.std.specs.Prelude.{◌≡◌, ◌≤◌, ◌<◌, ℕ, ◌∷◌, map, IfOk, IfSome, IfNone, IsTrue, ◌↔◌, codes, decimal, string_bytes};
+ghost use Rattle.std.specs.Prelude.{◌≡◌, ◌≤◌, ◌<◌, ◌^◌, ℕ, [], ◌∷◌, map, IfOk, IfSome, IfNone, IsTrue, ◌↔◌, decimal, string_bytes};
 ghost use Rattle.std.specs.List.{list_any};
 ghost use Rattle.clap.specs.Words.{app_of, found_of, rows_of};
 ghost use Rattle.scatter_run.specs.CommandLine.{command_line, words_read, begins_with_hyphen};
@@ -11,11 +11,16 @@ use itoa::Buffer;
 use limits::{HIGHEST_ORDER, MOST_WORKERS};
 use std::alloc::{AllocError, Global};
 
+/// The largest number that `generate` takes.
+const LARGEST_NUMBER: u32 = 1_000_000;
+
 /// The jobs that words can name.
 #[derive(Clone, Copy, Debug, PartialEq, Eq)]
 pub(crate) enum Job {
     /// `complete ORDER WORKERS`.
     Complete { order: u32, workers: u32 },
+    /// `generate N`.
+    Generate { number: u32 },
 }
 
 /// The job that the words name, or None where they aren't in the table.
@@ -82,10 +87,19 @@ fn job_of(job: &str, numbers: &[&str]) -> Option<Job>
     ensures job { IfSome result (λ j. AreWordsOf (job.now ∷ map (λ n. n.now) numbers.now) j) }
     ensures none { IfNone result (NameNoJob (job.now ∷ map (λ n. n.now) numbers.now)) }
 {
-    let [order, workers] = numbers else {
-        return None;
-    };
-    if !names_complete(job) {
+    match numbers {
+        [order, workers] => complete_of(job, order, workers),
+        [number] => generate_of(job, number),
+        _ => None,
+    }
+}
+
+/// `complete` with these numbers, if they are in range.
+fn complete_of(job: &str, order: &str, workers: &str) -> Option<Job>
+    ensures job { IfSome result (AreWordsOf (job.now ∷ order.now ∷ workers.now ∷ [])) }
+    ensures none { IfNone result (NameNoJob (job.now ∷ order.now ∷ workers.now ∷ [])) }
+{
+    if !is_same(job, "complete") {
         return None;
     }
     let order = read_number(order, 0, HIGHEST_ORDER + 1)?;
@@ -93,11 +107,23 @@ fn job_of(job: &str, numbers: &[&str]) -> Option<Job>
     Some(Job::Complete { order, workers })
 }
 
-/// Whether the word is that of the job `complete`.
-fn names_complete(word: &str) -> bool
-    ensures { IsTrue result ↔ (word.now ≡ codes "complete") }
+/// `generate` with this number, if it is in range.
+fn generate_of(job: &str, number: &str) -> Option<Job>
+    ensures job { IfSome result (AreWordsOf (job.now ∷ number.now ∷ [])) }
+    ensures none { IfNone result (NameNoJob (job.now ∷ number.now ∷ [])) }
 {
-    word == "complete"
+    if !is_same(job, "generate") {
+        return None;
+    }
+    let number = read_number(number, 1, LARGEST_NUMBER + 1)?;
+    Some(Job::Generate { number })
+}
+
+/// Whether the words are the same.
+fn is_same(word: &str, other: &str) -> bool
+    ensures { IsTrue result ↔ (word.now ≡ other.now) }
+{
+    word == other
 }
 
 /// The number from `least` to below `end` that prints as the word, if there is one.
@@ -105,11 +131,21 @@ fn read_number(word: &str, least: u32, end: u32) -> Option<u32>
     ensures some { IfSome result (λ n. (least ≤ n) × (n < end) × (word.now ≡ decimal n)) }
     ensures none { IfNone result ((n : ℕ) → least ≤ n → n < end → word.now ≡ decimal n → ⊥) }
 {
+    let n = printed_number(word)?;
+    if least <= n && n < end { Some(n) } else { None }
+}
+
+/// The number of 32 bits that prints as the word, if there is one. A sign or a zero in front is another
+/// spelling.
+fn printed_number(word: &str) -> Option<u32>
+    ensures some { IfSome result (λ n. (n < 2 ^ 32) × (word.now ≡ decimal n)) }
+    ensures none { IfNone result ((n : ℕ) → n < 2 ^ 32 → word.now ≡ decimal n → ⊥) }
+{
+    let n = word.parse::<u32>().ok()?;
     let mut buffer = Buffer::new();
-    for n in least..end {
-        if buffer.format(n) == word {
-            return Some(n);
-        }
+    if buffer.format(n) == word {
+        Some(n)
+    } else {
+        None
     }
-    None
 }

@@ -23,6 +23,6 @@ pub use file::{Coordinate, LineRow, TermRow, TextFile};
 pub use initial::initial_of;
 pub use laws::one_text;
 pub use limit_checks::check_limits;
-pub use printing::write_diagram;
+pub use printing::{push_closing, write_diagram};
 pub use reading::{one_outcome, read_text};
 pub use rows::Rows;

@@ -156,7 +156,7 @@ fn word_of(cause: StopCause) -> &'static str
 }
 
 /// Appends `end`, or `stopped J CAUSE`.
-fn push_closing(text: &mut String, stop: Option<(u32, StopCause)>) -> Result<(), AllocError>
+pub fn push_closing(text: &mut String, stop: Option<(u32, StopCause)>) -> Result<(), AllocError>
     ensures { OnOk result (Continues text.old text.new (closing_text (stop_of stop))) }
 {
     match stop {

@@ -1,6 +1,6 @@
 -- What was read is answered, and the answer given; or a fault was counted.
-use Rattle.scatter_run.specs.Outcome.{IsCompleteOutcome, IsAccepted}
-use Rattle.scatter_run.proofs.Promises.{answer_kept, long_kept, read_kept}
+use Rattle.scatter_run.specs.Outcome.{IsCompleteOutcome, IsAccepted, SaysRead}
+use Rattle.scatter_run.proofs.Promises.{answer_kept, long_kept, read_kept, read-verdict}
 use Rattle.scatter_run.proofs.jobs.complete_job.Goals as goal
 
 pub returns-in-Ok-answer_to-clause-promise : goal.returns-in-Ok-answer_to-clause-promise
@@ -12,7 +12,7 @@ pub returns-in-Err-Failed-clause-promise : goal.returns-in-Err-Failed-clause-pro
 returns-in-Err-Failed-clause-promise g c =
     let is = c.in-Err-Failed.is in
     let fault = c.in-Err-Failed.field-0-is in
-    read_kept (IsCompleteOutcome c.args.order) (IsAccepted c.args.order) _ _ _ _ _ _ _ _ c.give-in-Err-Failed.result c.requires.source c.requires.sink
+    read_kept (IsCompleteOutcome c.args.order) (IsAccepted c.args.order) SaysRead read-verdict _ _ _ _ _ _ _ _ c.give-in-Err-Failed.result c.requires.source c.requires.sink
     (c.read_input.ensures.failed cc) c.give-in-Err-Failed.ensures.given
 
 pub returns-clause-promise : goal.returns-clause-promise
