@@ -21,7 +21,7 @@ all-three true true false h k l = cc
 all-three true false c h k l = cc
 all-three false b c h k l = cc
 
-live-out : (ws : List Wall) (p : Point) (u : Wall) → In u (live_on ws p) → In u ws × (is_live u ≡ true) × (is_on u p ≡ true)
+pub live-out : (ws : List Wall) (p : Point) (u : Wall) → In u (live_on ws p) → In u ws × (is_live u ≡ true) × (is_on u p ≡ true)
 live-out ws p u h = let r = filter-from (λ w. is_live w && is_on w p) ws u h in (r.0, and-left (is_live u) (is_on u p) r.1, and-right (is_live u) (is_on u p) r.1)
 
 -- at a point that isn't special all live walls are parallel

@@ -13,7 +13,7 @@ use Rattle.scattering.proofs.Keys.{same-exp}
 use Rattle.broken_line_theory.proofs.Terms.{IsKept, AllKeys, all-pow, all-product, all-absolute, all-rest, all-coef}
 
 -- ---- sums of terms of walls
-exp-origin : (u : Exp) → exp_add u origin ≡ u
+pub exp-origin : (u : Exp) → exp_add u origin ≡ u
 exp-origin u = same-exp _ _ (omega (arith, ints)) (omega (arith, ints))
 
 exp-assoc : (u v w : Exp) → exp_add (exp_add u v) w ≡ exp_add u (exp_add v w)

@@ -26,7 +26,7 @@ pub record IsSafe (ws : List Wall) (n : ℕ) (m : Exp) (q : Point) : Type 0 wher
   pub near : (p : Point) → IsHit ws n m q p → IsNear p
   pub met : (p : Point) → IsMet ws n m q p → ⊥
 
-det-origin : (d : Exp) → det d origin ≡ pos 0
+pub det-origin : (d : Exp) → det d origin ≡ pos 0
 det-origin d = omega (arith, ints)
 
 -- det d (x + k) = det d x where det d k = 0

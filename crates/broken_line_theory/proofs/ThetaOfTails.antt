@@ -62,7 +62,7 @@ end-last x (c ∷ cs) =
     ap (end_exp (last (exp_sub x c.key.exp) cs)) (reverse-cons c cs) ∙ end-snoc (last (exp_sub x c.key.exp) cs) (reverse cs) c
     ∙ ap (λ e. exp_add e c.key.exp) (end-last (exp_sub x c.key.exp) cs) ∙ sub-add x c.key.exp
 
-same-tail : (s t : Tail) → s.root ≡ t.root → s.bends ≡ t.bends → s ≡ t
+pub same-tail : (s t : Tail) → s.root ≡ t.root → s.bends ≡ t.bends → s ≡ t
 same-tail s t p q = λ i. record { root = p i; bends = q i }
 
 -- a complete tail is the line of its bends read backwards

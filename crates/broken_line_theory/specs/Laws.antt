@@ -29,7 +29,12 @@ abbrev pub ThetaSumsCompleteTails : Type 0
 ThetaSumsCompleteTails = (ws : List Wall) (n k : ℕ) (m : Exp) (q : Point) (ts : List Tail) → Every (IsWall k) ws → IsPoint q → IsAskFault ws n m q None → m ≢ origin
     → Lists (IsTail ws n m q) ts → IsTheta ws n m q (map (value ws n m) (map (λ t. reverse t.bends) (filter (is_complete m) ts)))
 
--- the first fault is one
+-- an ask has a first fault, or none
+abbrev pub AskFaultExists : Type 0
+AskFaultExists = (ws : List Wall) (n k : ℕ) (m : Exp) (q : Point) → Every (IsWall k) ws → IsPoint q
+    → (f : Option AskFault) × IsAskFault ws n m q f
+
+-- and not more than one
 abbrev pub AskFaultIsUnique : Type 0
 AskFaultIsUnique = (ws : List Wall) (n : ℕ) (m : Exp) (q : Point) (f g : Option AskFault) → IsAskFault ws n m q f → IsAskFault ws n m q g → f ≡ g
 

@@ -18,6 +18,9 @@ pub const LARGEST_COORDINATE: u64 = 1 << 40;
 /// The numbers of a direction.
 pub const LARGEST_DIRECTION: u32 = 4096;
 
+/// The exponents that wall functions reach within a degree: 2^18.
+pub const MOST_REACHED: usize = 1 << 18;
+
 /// The variables of an input.
 pub const MOST_VARIABLES: u32 = 8;
 

@@ -1,0 +1,3 @@
+pub mod Growths
+pub mod Levels
+pub mod ReachList
