@@ -1,0 +1,5 @@
+//! Tests of the store of published orders, by the first orders of two lines.
+#![tactic(auto)]
+
+#[cfg(test)]
+mod epochs;
