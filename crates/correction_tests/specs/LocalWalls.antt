@@ -1,6 +1,6 @@
 -- The walls of the worked examples.
 --     middle, steep_point       (0, 0) and (0, -9/64)
---     drawn n ls rs             the diagram of order n with these lines and rays
+--     diagram_with n ls rs      the diagram of order n with these lines and rays
 --     plain_lines               the axes with 1 + t1·x and 1 + t2·y
 --     heavy_lines, heavy_rays   the same with coefficients of 2^31 - 1, and the ray along (1, 1)
 --     steep_lines               lines along (0, 1) and (64, 1) with terms at (0, 64) and (64, 1), through (0, 0) and (9, 0)
@@ -37,5 +37,5 @@ heavy_rays = wall Outgoing middle (pos 1) (pos 1) (key 1 1 (pos 1) (pos 1), pos 
 abbrev pub steep_lines : List Wall
 steep_lines = wall Line middle (pos 0) (pos 1) (key 1 0 (pos 0) (pos 64), pos 1) ∷ wall Line (point (pos 9) (pos 0) (pos 1)) (pos 64) (pos 1) (key 1 0 (pos 64) (pos 1), pos 2147483647) ∷ []
 
-abbrev pub drawn : ℕ → List Wall → List Wall → SeenDiagram
-drawn n ls rs = record { order = n; diagram = record { initial = ls; rays = rs } }
+abbrev pub diagram_with : ℕ → List Wall → List Wall → SeenDiagram
+diagram_with n ls rs = record { order = n; diagram = record { initial = ls; rays = rs } }

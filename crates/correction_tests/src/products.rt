@@ -33,7 +33,7 @@ fn meeting() -> Point
 
 // The axes with the functions 1 + t1*x and 1 + t2*y.
 fn plain(alloc: Global) -> Result<Diagram, Fail>
-    ensures { IfOk result (λ e. e ≡ W.drawn 1 W.plain_lines []) }
+    ensures { IfOk result (λ e. e ≡ W.diagram_with 1 W.plain_lines []) }
 {
     let x = [(ONE, 1), (X, 1)];
     let y = [(ONE, 1), (Y, 1)];
@@ -45,7 +45,7 @@ fn plain(alloc: Global) -> Result<Diagram, Fail>
 
 // The same with coefficients of 2^31 - 1, and the ray of their completion.
 fn heavy(alloc: Global) -> Result<Diagram, Fail>
-    ensures { IfOk result (λ e. e ≡ W.drawn 3 W.heavy_lines W.heavy_rays) }
+    ensures { IfOk result (λ e. e ≡ W.diagram_with 3 W.heavy_lines W.heavy_rays) }
 {
     let x = [(ONE, 1), (X, 2147483647)];
     let y = [(ONE, 1), (Y, 2147483647)];
@@ -60,7 +60,7 @@ fn heavy(alloc: Global) -> Result<Diagram, Fail>
 
 // Lines along (0, 1) and (64, 1) through (0, 0) and (9, 0), with terms at (0, 64) and (64, 1).
 fn steep(alloc: Global) -> Result<Diagram, Fail>
-    ensures { IfOk result (λ e. e ≡ W.drawn 1 W.steep_lines []) }
+    ensures { IfOk result (λ e. e ≡ W.diagram_with 1 W.steep_lines []) }
 {
     let up = [(ONE, 1), (T1_Y_TO_64, 1)];
     let flat = [(ONE, 1), (T1_X_TO_64_Y, 2147483647)];
