@@ -74,3 +74,11 @@ largest_power = 255
 
 abbrev pub most_workers : ℕ
 most_workers = 16
+
+-- the readers of a store of orders, and of a session
+abbrev pub most_readers : ℕ
+most_readers = 8
+
+-- the asks of an input
+abbrev pub most_asks : ℕ
+most_asks = 1024

@@ -21,6 +21,9 @@ pub const LARGEST_DIRECTION: u32 = 4096;
 /// The exponents that wall functions reach within a degree: 2^18.
 pub const MOST_REACHED: usize = 1 << 18;
 
+/// The tails that end at a point: 2^20.
+pub const MOST_TAILS: usize = 1 << 20;
+
 /// The variables of an input.
 pub const MOST_VARIABLES: u32 = 8;
 
@@ -47,3 +50,9 @@ pub const LARGEST_POWER: u64 = 255;
 
 /// The workers that words may ask for.
 pub const MOST_WORKERS: u32 = 16;
+
+/// The readers of a store of orders, and of a session.
+pub const MOST_READERS: u32 = 8;
+
+/// The asks of an input.
+pub const MOST_ASKS: usize = 1024;

@@ -1,16 +1,11 @@
 -- What contracts see of a store of published orders, of its readers, of what these are told and have pinned.
 --     SeenEpoch         the lines of a store, and an order: the newest one, the one told or pinned, or the greatest seen
---     most_readers      a store has places for so many readers, at most
 --     epoch_of c        the lines and the order of a completion
 --     next_epoch e      the next order
 --     learned e n       the greater one of the orders
 use Rattle.std.specs.Prelude.{ℕ, ◌+◌, max}
 use Rattle.scatter_diagram.specs.Listed.{SeenInitial}
 use Rattle.scatter_step.specs.Completed.{SeenCompleted}
-
--- a number of this program's own
-abbrev pub most_readers : ℕ
-most_readers = 8
 
 pub record SeenEpoch : Type 0 where
   pub lines : SeenInitial

@@ -2,7 +2,8 @@
 
 ghost use Rattle.std.specs.Prelude.{◌≡◌, ◌+◌, ◌≤◌, replicate, IfOk, MatchResult};
 ghost use Rattle.left_right.specs.Sides.{view};
-ghost use Rattle.order_epochs.specs.Seen.{epoch_of, most_readers, next_epoch};
+ghost use Rattle.limits.specs.Limits.{most_readers};
+ghost use Rattle.order_epochs.specs.Seen.{epoch_of, next_epoch};
 ghost use Rattle.order_epochs.specs.Rule.{epoch_on, knows};
 ghost use Rattle.order_epochs.specs.Machine.{IsPublish, IsTell};
 
