@@ -4,12 +4,13 @@ ghost use Rattle.std.specs.Prelude.{◌≡◌, ℕ, ◌+◌, ◌≤◌, IfOk, If
 ghost use Rattle.limits.specs.Limits.{highest_order};
 ghost use Rattle.scattering.specs.Wall.{walls};
 ghost use Rattle.scattering.specs.Stops.{AllNear};
-ghost use Rattle.joint_finder.specs.Joints.{points_of, AreJoints, IsStoppedByFar};
+ghost use Rattle.joint_finder.specs.Joints.{points_of, AreJoints, AreJointsBefore, IsStoppedByFar};
 
 use crate::crossings::crossings;
 use crate::live::live_walls;
 use crate::new_crossings::new_crossings;
-use crate::order::{drop_repeats, sort, sort_by_threads};
+use crate::order::{drop_repeats, sort, sort_by_workers};
+use limits::MOST_WORKERS;
 use plane_geom::Point;
 use scatter_diagram::{Diagram, Stop};
 use std::alloc::Global;
@@ -47,10 +48,30 @@ pub fn joints_from<R: Threads + Sync>(
     ensures near { IfOk result (λ _. AllNear order (walls e.now.diagram)) }
     ensures stop { IfErr result (IsStoppedByFar order (walls e.now.diagram)) }
 {
+    joints_by_workers(rt, MOST_WORKERS, alloc, e, known, order)
+}
+
+/// What `joints_from` gives, where the work is split among at most so many workers.
+pub fn joints_by_workers<R: Threads + Sync>(
+    rt: &R,
+    workers: u32,
+    alloc: Global,
+    e: &Diagram,
+    known: &[Point],
+    order: u32,
+) -> Result<Vec<Point>, Stop>
+    requires some { 1 ≤ workers }
+    requires least { 1 ≤ order }
+    requires order { order ≤ highest_order }
+    requires known { AreJointsBefore order (walls e.now.diagram) (points_of known.now) }
+    ensures joints { IfOk result (λ ps. AreJoints order (walls e.now.diagram) (points_of ps.items)) }
+    ensures near { IfOk result (λ _. AllNear order (walls e.now.diagram)) }
+    ensures stop { IfErr result (IsStoppedByFar order (walls e.now.diagram)) }
+{
     let live = live_walls(alloc, e)?;
-    let mut points = new_crossings(rt, alloc, order, live.as_slice())?;
+    let mut points = new_crossings(rt, workers, alloc, order, live.as_slice())?;
     points.extend_from_slice(known)?;
-    sort_by_threads(rt, &mut points);
+    sort_by_workers(rt, workers, &mut points);
     drop_repeats(&mut points);
     Ok(points)
 }

@@ -11,4 +11,5 @@ mod order;
 mod rows;
 mod strands;
 
-pub use active::{joints, joints_from};
+pub use active::{joints, joints_by_workers, joints_from};
+pub use order::{drop_repeats, sort};

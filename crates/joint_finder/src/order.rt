@@ -11,7 +11,7 @@ use rayon::prelude::*;
 use std::thread::Threads;
 
 /// Sorts points by x, then y.
-pub(crate) fn sort(points: &mut Vec<Point>)
+pub fn sort(points: &mut Vec<Point>)
     ensures permutation { IsPermutation points.old.items points.new.items }
     ensures sorted { IsSorted position_order points.new.items }
 {
@@ -19,7 +19,7 @@ pub(crate) fn sort(points: &mut Vec<Point>)
 }
 
 /// Sorts points by x, then y. The work is split among threads.
-pub(crate) fn sort_by_threads<R: Threads + Sync>(rt: &R, points: &mut Vec<Point>)
+fn sort_by_threads<R: Threads + Sync>(rt: &R, points: &mut Vec<Point>)
     ensures permutation { IsPermutation points.old.items points.new.items }
     ensures sorted { IsSorted position_order points.new.items }
 {
@@ -30,8 +30,20 @@ pub(crate) fn sort_by_threads<R: Threads + Sync>(rt: &R, points: &mut Vec<Point>
     );
 }
 
-/// Drops each point that equals the one before.
-pub(crate) fn drop_repeats(points: &mut Vec<Point>)
+/// Sorts points by x, then y, by threads where there is more than one worker.
+pub(crate) fn sort_by_workers<R: Threads + Sync>(rt: &R, workers: u32, points: &mut Vec<Point>)
+    ensures permutation { IsPermutation points.old.items points.new.items }
+    ensures sorted { IsSorted position_order points.new.items }
+{
+    if workers > 1 {
+        sort_by_threads(rt, points)
+    } else {
+        sort(points)
+    }
+}
+
+/// Drops each point that equals the one before, so of sorted points each repeated one.
+pub fn drop_repeats(points: &mut Vec<Point>)
     ensures { points.new.items ≡ dedup same_point points.old.items }
 {
     points.dedup();

@@ -1,6 +1,6 @@
 // The points where strands meet, strand by strand, split among threads.
 
-ghost use Rattle.std.specs.Prelude.{◌≡◌, ◌<◌, ◌++◌, [], length, IsTrue, IfOk, OnOk, IfErr};
+ghost use Rattle.std.specs.Prelude.{◌≡◌, ◌<◌, ◌≤◌, ◌++◌, [], length, IsTrue, IfOk, OnOk, IfErr};
 ghost use Rattle.scattering.specs.Collections.{Every};
 ghost use Rattle.joint_finder.specs.Crossings.{Adds, StopsFar};
 ghost use Rattle.joint_finder.specs.Strands.{IsFacing, IsRowAt, MeetsPairs, joined, others_at};
@@ -14,18 +14,28 @@ use std::alloc::{AllocError, Global};
 use std::thread::Threads;
 
 /// So many pairs are worth a thread.
-const PAIRS_OF_A_PIECE: usize = 1024;
+const PAIRS_OF_A_PIECE: usize = 4096;
 
-/// The points where strands meet others, in the rows of the strands, which are split among threads. Where the
-/// others are the same strands again, a row has the later ones alone.
+/// How many rows of a list one thread takes at least, where so many workers share them.
+fn least_rows(rows: usize, others: usize, workers: u32) -> usize
+    requires { 1 ≤ workers }
+{
+    let worth = PAIRS_OF_A_PIECE / others.max(1) + 1;
+    worth.max(rows / workers as usize)
+}
+
+/// The points where strands meet others, in the rows of the strands, which are split among so many workers. Where
+/// the others are the same strands again, a row has the later ones alone.
 pub(crate) fn rows<R: Threads + Sync>(
     rt: &R,
+    workers: u32,
     alloc: Global,
     order: u32,
     ss: &[Strand<'_>],
     ts: &[Strand<'_>],
     again: bool,
 ) -> Result<Vec<Vec<Point>>, Stop>
+    requires some { 1 ≤ workers }
     requires again { IsTrue again → ts.now ≡ ss.now }
     requires facing { Every (λ s. Every (IsFacing order s) ts.now) ss.now }
     ensures points { IfOk result (λ r. Adds (MeetsPairs order ss.now ts.now) [] (joined r.items)) }
@@ -33,7 +43,7 @@ pub(crate) fn rows<R: Threads + Sync>(
 {
     let rows: Result<Vec<Vec<Point>>, Stop> = (0..ss.len())
         .into_par_iter()
-        .with_min_len(PAIRS_OF_A_PIECE / (ts.len() + 1) + 1)
+        .with_min_len(least_rows(ss.len(), ts.len(), workers))
         .map(
             |i: usize| -> Result<Vec<Point>, Stop>
                 requires { (i < length ss.now) × (IsTrue again → ts.now ≡ ss.now)

@@ -59,7 +59,7 @@ fn next_by_workers<R: Threads + Sync, G: Gate>(
     ensures stop { IfErr result (IsStoppedAfter done.now) }
 {
     let _ = done.order(); // tells that it is a completion
-    let points = done.tasks(rt)?;
+    let points = done.tasks_by_workers(rt, workers)?;
     let corrections = correct_all(rt, alloc, done, points.as_slice(), workers, gate)?;
     done.advance(corrections.as_slice())
 }

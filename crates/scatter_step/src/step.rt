@@ -10,7 +10,8 @@ ghost use Rattle.scatter_step.specs.Completed.{IsCompleted};
 ghost use Rattle.scatter_step.specs.Orders.{IsNextCompletion, AreTasks, AreNextCorrections, AreAtLightPoints, IsStoppedByWalls, IsStoppedAfter, AreCorrectionsAt, IsStoppedByPoint};
 
 use crate::Completed;
-use joint_finder::{joints, joints_from};
+use joint_finder::{joints, joints_by_workers};
+use limits::MOST_WORKERS;
 use local_product::{Workspace, obstruction_with, tables_of};
 use plane_geom::Point;
 use ray_merge::merged;
@@ -29,8 +30,24 @@ impl Completed {
         ensures near { IfOk result (λ ps. AllNear (self.now.order + 1) (walls self.now.diagram)) }
         ensures stop { IfErr result (IsStoppedByFar (self.now.order + 1) (walls self.now.diagram)) }
     {
-        joints_from(
+        self.tasks_by_workers(rt, MOST_WORKERS)
+    }
+
+    /// The active points of the next order, as `tasks` gives them, found by at most so many workers.
+    pub fn tasks_by_workers<R: Threads + Sync>(
+        &self,
+        rt: &R,
+        workers: u32,
+    ) -> Result<Vec<Point>, Stop>
+        requires order { self.now.order < highest_order }
+        requires some { 1 ≤ workers }
+        ensures points { IfOk result (λ ps. AreTasks self.now ps.items) }
+        ensures near { IfOk result (λ ps. AllNear (self.now.order + 1) (walls self.now.diagram)) }
+        ensures stop { IfErr result (IsStoppedByFar (self.now.order + 1) (walls self.now.diagram)) }
+    {
+        joints_by_workers(
             rt,
+            workers,
             self.allocator(),
             self.diagram(),
             self.own_joints(),
