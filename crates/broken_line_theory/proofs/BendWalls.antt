@@ -75,6 +75,7 @@ pub record BendWall (n : ℕ) (ws : List Wall) (p : Point) (x : Exp) (k : Key) :
   pub on : In wall (live_on ws p)
   pub crosses : det wall.dir x ≢ pos 0
   pub along : det wall.dir k.exp ≡ pos 0
+  pub as_far : (y : Exp) → det wall.dir y ≡ det wall.dir x → across (live_on ws p) y ≡ across (live_on ws p) x
   pub same : (y : Exp) → det wall.dir y ≡ det wall.dir x → bend_majorant n ws p y ≡ bend_majorant n ws p x
 
 pub bend-wall : (n : ℕ) (ws : List Wall) (p : Point) (x : Exp) (k : Key) → Every IsTame ws → IsFalse (is_special ws p) → 1 ≤ degree k → coef (bend_majorant n ws p x) k ≢ pos 0 → BendWall n ws p x k
@@ -94,5 +95,6 @@ bend-wall n ws p x k tame plain l h = go (live_on ws p) refl
           on = i;
           crosses = λ z. one-only k l (λ f. h (rw (e, z) f));
           along = a;
+          as_far = λ y s. rw (e, s);
           same = λ y s. rw (e, s);
         }

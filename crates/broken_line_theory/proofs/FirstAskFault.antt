@@ -25,7 +25,7 @@ check-found : (F P : Type 0) (c : AskFault) (later : Option AskFault → Type 0)
 check-found F P c later (inl h) l = (Some c, inl (h, refl))
 check-found F P c later (inr h) l = (l.0, inr (h, l.1))
 
-above-or-not : (a b : ℕ) → (a < b) ⊎ (b ≤ a)
+pub above-or-not : (a b : ℕ) → (a < b) ⊎ (b ≤ a)
 above-or-not a b = go (dec_le b a)
   where
     go : Dec (b ≤ a) → (a < b) ⊎ (b ≤ a)

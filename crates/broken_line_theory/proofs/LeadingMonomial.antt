@@ -27,7 +27,7 @@ theta-unique ws n m q s t h k = go (exp_eq m origin) h k
     go true h k y = h y ∙ sym (k y)
     go false h k y = h.2 y ∙ total-listed (value ws n m) y (IsBrokenLine ws n m q) h.0 k.0 h.1 k.1 ∙ sym (k.2 y)
 
-total-add : (p q : Powers) → total (powers_add p q) ≡ total p + total q
+pub total-add : (p q : Powers) → total (powers_add p q) ≡ total p + total q
 total-add p q = omega arith
 
 final-degree : (n : ℕ) (ws : List Wall) (x : Exp) (p : Powers) (c : ℤ) (bends : List Bend) → degree (final n ws x p c bends).0 ≡ total p + degrees bends

@@ -95,12 +95,12 @@ module _ (ws : List Wall) (k j : ℕ) (q : Point) (walls : Every (IsWall j) ws) 
           let c = g.1.2 y (omega (arith, l, o)) ∙ next-coef a s (combined k g.1.0 a) y in
           omega (arith, ints, e, c)
 
-  runs-ready : (first d : ℕ) (a : Sum) (n : ℕ) → Runs ws k q s first d a n → IsReady ws k q s d a
+  pub runs-ready : (first d : ℕ) (a : Sum) (n : ℕ) → Runs ws k q s first d a n → IsReady ws k q s d a
   runs-ready first zero a n begins = ready-none
   runs-ready first (suc d) a n (goes b w prev next none weights le) = ready-next d _ b (runs-ready first d _ _ prev) next none
 
   -- thetas of all that a family holds
-  one-begin : (a : Sum) (r : Exp) (d e : ℕ) → BeginsAt a r d → BeginsAt a r e → d ≡ e
+  pub one-begin : (a : Sum) (r : Exp) (d e : ℕ) → BeginsAt a r d → BeginsAt a r e → d ≡ e
   one-begin a r d e h i =
       let x = h.least i.found.0 i.found.1 i.found.2 in let y = i.least h.found.0 h.found.1 h.found.2 in
       let f = h.found.3 in let g = i.found.3 in omega (arith, x, y, f, g)
@@ -122,7 +122,7 @@ module _ (ws : List Wall) (k j : ℕ) (q : Point) (walls : Every (IsWall j) ws) 
             let m = Every-at (λ t. degree t.0 ≤ k) a t.0 series.low t.1 in absurd (omega (arith, l, m)),
       )
 
-  thetas-of : (a : Sum) → IsSeries k a → ((r : Exp) (i : ℕ) → BeginsAt a r i → IsAskFault ws (k - i) r q None) → (thetas : Exp → Sum) × AreThetas ws k q a thetas
+  pub thetas-of : (a : Sum) → IsSeries k a → ((r : Exp) (i : ℕ) → BeginsAt a r i → IsAskFault ws (k - i) r q None) → (thetas : Exp → Sum) × AreThetas ws k q a thetas
   thetas-of a series free = (λ r. (choose a series free r).0, λ r d h. (free r d h, (choose a series free r).1 d h))
 
   -- where the steps end without a fault, they end with the family that fits

@@ -22,13 +22,13 @@ module _ (ws : List Wall) (b : ℕ) (m : Exp) where
   nothing-below p x used n = record { each = tt; all = λ cs h. n (traced-reach ws b m p x used cs h); once = tt }
 
   -- the bends that begin with c, below a node
-  abbrev BeginsWith : Exp → ℕ → Bend → List Bend → Type 0
+  abbrev pub BeginsWith : Exp → ℕ → Bend → List Bend → Type 0
   BeginsWith x used c cs = (ds : List Bend) × IsTraced ws b m c.at (exp_sub x c.key.exp) (used + degree c.key) ds × (cs ≡ c ∷ ds)
 
-  begin-same : (x : Exp) (used : ℕ) (c d : Bend) (cs : List Bend) → BeginsWith x used c cs → BeginsWith x used d cs → c ≡ d
+  pub begin-same : (x : Exp) (used : ℕ) (c d : Bend) (cs : List Bend) → BeginsWith x used c cs → BeginsWith x used d cs → c ≡ d
   begin-same x used c d cs h k = let e = h.2 in let f = k.2 in cc
 
-  begin-listed : (x : Exp) (used : ℕ) (c : Bend) (rest : List (List Bend)) → Lists (IsTraced ws b m c.at (exp_sub x c.key.exp) (used + degree c.key)) rest
+  pub begin-listed : (x : Exp) (used : ℕ) (c : Bend) (rest : List (List Bend)) → Lists (IsTraced ws b m c.at (exp_sub x c.key.exp) (used + degree c.key)) rest
       → Lists (BeginsWith x used c) (map (λ ds. c ∷ ds) rest)
   begin-listed x used c rest =
       Lists-map (λ ds. c ∷ ds) (IsTraced ws b m c.at (exp_sub x c.key.exp) (used + degree c.key)) (BeginsWith x used c) rest

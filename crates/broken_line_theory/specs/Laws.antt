@@ -1,12 +1,12 @@
 -- What is proved here of broken lines, thetas and their products.
-use Rattle.std.specs.Prelude.{◌≡◌, ℕ, ◌+◌, ◌≢◌, ◌↔◌, List, map, filter, reverse, Option, None}
+use Rattle.std.specs.Prelude.{◌≡◌, ℕ, ◌+◌, ◌≤◌, ◌≢◌, ◌↔◌, List, map, filter, reverse, Option, None, pos, nat_abs}
 use Rattle.scattering.specs.Collections.{Every, Lists}
-use Rattle.scattering.specs.Series.{Exp, Sum, Same, origin}
+use Rattle.scattering.specs.Series.{Exp, Key, Sum, Same, origin, coef, degree}
 use Rattle.scattering.specs.Plane.{Point, IsPoint}
 use Rattle.scattering.specs.Wall.{Wall, IsWall}
 use Rattle.scattering.specs.BrokenLine.{Bend, IsBrokenLine, value}
 use Rattle.scattering.specs.Tail.{Tail, IsTail, IsComplete, is_complete, backwards}
-use Rattle.scattering.specs.Theta.{AskFault, IsAskFault, IsTheta}
+use Rattle.scattering.specs.Theta.{AskFault, IsAskFault, IsTheta, IsWeight}
 use Rattle.scattering.specs.ThetaProduct.{IsThetaProduct, IsFamily, Runs, IsProductFault}
 
 -- where nothing fails, the broken lines are the complete tails
@@ -42,9 +42,18 @@ AskFaultIsUnique = (ws : List Wall) (n : ℕ) (m : Exp) (q : Point) (f g : Optio
 abbrev pub ThetaExists : Type 0
 ThetaExists = (ws : List Wall) (n k : ℕ) (m : Exp) (q : Point) → Every (IsWall k) ws → IsPoint q → IsAskFault ws n m q None → (s : Sum) × IsTheta ws n m q s
 
+-- no coefficient exceeds the weight of all tails, and no degree the limit
+abbrev pub ThetaIsLight : Type 0
+ThetaIsLight = (ws : List Wall) (n k : ℕ) (m : Exp) (q : Point) (s : Sum) (w : ℕ) → Every (IsWall k) ws → IsPoint q → IsAskFault ws n m q None → m ≢ origin
+    → IsTheta ws n m q s → IsWeight ws n m q w → (x : Key) → (nat_abs (coef s x) ≤ w) × (coef s x ≢ pos 0 → degree x ≤ n)
+
 -- and it is one
 abbrev pub ThetaIsUnique : Type 0
 ThetaIsUnique = (ws : List Wall) (n : ℕ) (m : Exp) (q : Point) (s t : Sum) → IsTheta ws n m q s → IsTheta ws n m q t → Same s t
+
+-- where nothing fails there is a family that fits
+abbrev pub FamilyExists : Type 0
+FamilyExists = (ws : List Wall) (n k : ℕ) (l r : Exp) (q : Point) → Every (IsWall k) ws → IsPoint q → IsProductFault ws n l r q None → (a : Sum) × IsFamily ws n l r q a
 
 -- at most one family fits
 abbrev pub FamilyIsUnique : Type 0
@@ -54,6 +63,10 @@ FamilyIsUnique = (ws : List Wall) (n k : ℕ) (l r : Exp) (q : Point) (a b : Sum
 abbrev pub StepsEndWithFamily : Type 0
 StepsEndWithFamily = (ws : List Wall) (n k : ℕ) (l r : Exp) (q : Point) (s a : Sum) (first w : ℕ) → Every (IsWall k) ws → IsPoint q → IsThetaProduct ws n l r q s → Runs ws n q s first (n + 1) a w → IsFamily ws n l r q a
 
--- the product of two thetas has one first fault, or none
+-- the product of two thetas has a first fault, or none
+abbrev pub ProductFaultExists : Type 0
+ProductFaultExists = (ws : List Wall) (n k : ℕ) (l r : Exp) (q : Point) → Every (IsWall k) ws → IsPoint q → (f : Option AskFault) × IsProductFault ws n l r q f
+
+-- and not more than one
 abbrev pub ProductFaultIsUnique : Type 0
 ProductFaultIsUnique = (ws : List Wall) (n k : ℕ) (l r : Exp) (q : Point) (f g : Option AskFault) → Every (IsWall k) ws → IsPoint q → IsProductFault ws n l r q f → IsProductFault ws n l r q g → f ≡ g

@@ -1,6 +1,7 @@
 use Rattle.broken_line_theory.proofs.theta_product_is_determined.Goals as goal
+use Rattle.broken_line_theory.proofs.FirstProductFault.{family-exists}
 use Rattle.broken_line_theory.proofs.UniqueFamily.{family_unique}
 use Rattle.broken_line_theory.proofs.ProductSteps.{steps_end}
 
 pub returns : goal.returns
-returns c = record { unique = family_unique; ends = steps_end }
+returns c = record { exists = family-exists; unique = family_unique; ends = steps_end }
