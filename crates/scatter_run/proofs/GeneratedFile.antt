@@ -1,18 +1,18 @@
 -- The lines that are made from a number are those of a file within the limits.
 use Rattle.std.proofs.Common.{◌≡◌, ◌∙◌, ◌<◌, ◌≤◌, ◌+◌, ◌-◌, ◌*◌, ◌/◌, ◌++◌, ℕ, zero, suc, Bool, false, List, [], ◌∷◌, length, get_or, replicate, refl, sym, ap, arith, add-one, ℤ, nat_abs, take}
-use Rattle.std.specs.Prelude.{pos, ◌≤ℤ◌, ◌-ℤ◌, nat_lt, All}
+use Rattle.std.specs.Prelude.{pos, ◌≤ℤ◌, ◌-ℤ◌, nat_lt, All, None}
 use Rattle.std.specs.List.{list_any, AllByRecursion}
 use Rattle.std.proofs.Math.Nat.{one-dvd, mod-lt}
 use Rattle.std.proofs.lemmas.Int.{ints}
 use Rattle.std.proofs.lemmas.List.{length-replicate, take_all, take_more}
-use Rattle.std.proofs.lemmas.List.Elements.{All-append, All-cons, All-replicate, All-from_recursion}
+use Rattle.std.proofs.lemmas.List.Elements.{All-append, All-cons, All-nil, All-replicate, All-from_recursion}
 use Rattle.std.proofs.lemmas.Bool.Decides.{nat_tests}
 use Rattle.scattering.specs.Collections.{Every}
 use Rattle.scattering.proofs.Lists.{Every-implies}
 use Rattle.scatter_text.specs.declared.file.TermRow.{TermRow}
 use Rattle.scatter_text.specs.declared.file.LineRow.{LineRow}
 use Rattle.scatter_text.specs.declared.file.TextFile.{TextFile}
-use Rattle.scatter_text.specs.Values.{AreCoprime, IsCoordinate, IsTermRow, AreTerms, IsLine, AreLineRows}
+use Rattle.scatter_text.specs.Values.{AreCoprime, IsCoordinate, IsTermRow, AreTerms, IsLine, AreLineRows, IsAsk}
 use Rattle.scatter_text.specs.Limits.{gcd, has_many_vars, has_many_lines, has_many_terms, has_large_coefficient, is_exponent_large, has_large_exponent, is_power_large, has_large_power, is_far, IsWithinLimits}
 use Rattle.scatter_run.specs.Generated.{next_state, state, drawn, directions, direction_at, coordinate_at, powers_of_variable, line_drawn, generated_line, generated_lines}
 
@@ -73,15 +73,15 @@ whole place = record { positive = omega (arith, ints); coprime = one-coprime (na
 short : (place : ℕ) → place < 41 → nat_abs (pos place -ℤ pos 20) ≤ 20
 short place l = omega (arith, ints, l)
 
-not-above : (m n : ℕ) → n ≤ m → nat_lt m n ≡ false
-not-above m n l = grind (arith, nat_tests)
-
 near : (x y : ℕ) → x < 41 → y < 41 → is_far (coordinate_at x) (coordinate_at y) ≡ false
 unfolding is_far gcd
 near x y a b =
     let p : nat_abs (pos x -ℤ pos 20) * 1 ≤ 1099511627776 = omega (arith, short x a) in
     let q : nat_abs (pos y -ℤ pos 20) * 1 ≤ 1099511627776 = omega (arith, short y b) in
-    rw (not-above 1099511627776 (nat_abs (pos x -ℤ pos 20) * 1) p, not-above 1099511627776 (nat_abs (pos y -ℤ pos 20) * 1) q) refl
+    rw (below p, below q) refl
+  where
+    below : {n : ℕ} → n ≤ 1099511627776 → nat_lt 1099511627776 n ≡ false
+    below l = grind (arith, nat_tests)
 
 -- ---- powers of a variable
 
@@ -193,7 +193,7 @@ module _ (number : ℕ) where
       each (l ∷ ls) h = (h.0.valid, each ls h.1)
 
   abbrev pub file_of : TextFile
-  file_of = record { vars = pos 6; lines = generated_lines number; variables = omega (arith, ints); valid = valid-lines }
+  file_of = record { vars = pos 6; lines = generated_lines number; asks = []; settle = None; variables = omega (arith, ints); valid = valid-lines; valid_asks = All-nil IsAsk; settled = λ n e. absurd (cc) }
 
 no-line : (test : LineRow → Bool) (ls : List LineRow) → Every (λ l. test l ≡ false) ls → list_any test ls ≡ false
 no-line test [] h = refl

@@ -86,9 +86,6 @@ module _ (file : TextFile) (order : ℕ) (low : order ≤ highest_order) (within
 
 -- ---- two answers of one text
 
-pos-one : (m n : ℕ) → pos m ≡ pos n → m ≡ n
-pos-one m n e = cc
-
 record SameText (stop stop' : Option (ℕ × StopCause)) (text other : List ℕ) : Type 0 where
   stops : stop ≡ stop'
   texts : text ≡ other
@@ -99,7 +96,8 @@ completed-one order bytes stop stop' text other low a b =
     let q = b.completed in
     let f = file_is_one bytes a.file b.file a.reads b.reads in
     let within = within-limits a.file order a.within in
-    let v : p.vars ≡ q.vars = pos-one p.vars q.vars (sym p.variables ∙ f.0 ∙ q.variables) in
+    let e : pos p.vars ≡ pos q.vars = sym p.variables ∙ f.0 ∙ q.variables in
+    let v : p.vars ≡ q.vars = cc in
     let o = last-one a.file order low within stop stop' p.diagram q.diagram p.last (subst (λ (rows : List LineRow). IsLastCompletion rows order stop' q.diagram) (sym f.1) q.last) in
     let n = last_before order stop in
     let t : IsDiagramText p.vars n p.diagram stop other =
@@ -114,7 +112,7 @@ completed-one order bytes stop stop' text other low a b =
 limit-one : (bytes : List ℕ) (f g : TextFile) (order : ℕ) → IsTextOf bytes f → IsTextOf bytes g → limit_of f order ≡ limit_of g order
 limit-one bytes f g order a b =
     let e = file_is_one bytes f g a b in
-    λ i. limit_by (e.0 i) (e.1 i) order
+    λ i. limit_by (e.0 i) (e.1 i) (e.2 i) order 1
 
 -- ---- outcomes by what the bytes are
 

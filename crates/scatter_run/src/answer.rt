@@ -6,7 +6,7 @@ ghost use Rattle.scatter_run.specs.Outcome.{IsCompleteOutcome, bad_text, limit_f
 use crate::completing::complete;
 use crate::status::Status;
 use outside_io::Gate;
-use scatter_text::{LimitKind, TextFault, TextKind, check_limits, read_text};
+use scatter_text::{LimitKind, TextFault, TextKind, TextMode, check_limits, read_text};
 use std::alloc::{AllocError, Global};
 use std::thread::Threads;
 
@@ -32,8 +32,8 @@ pub(crate) fn answer_to<R: Threads + Sync, G: Gate>(
     requires few { workers ≤ most_workers }
     ensures { IfOk result (λ a. IsCompleteOutcome order bytes.now a.status a.text.items) }
 {
-    match read_text(alloc, bytes) {
-        Ok(file) => match check_limits(&file, order) {
+    match read_text(alloc, bytes, TextMode::Lines) {
+        Ok(file) => match check_limits(&file, order, 1) {
             None => complete(rt, alloc, &file, order, workers, gate),
             Some(which) => Ok(Answer {
                 status: Status::Limit { which },

@@ -85,7 +85,8 @@ impl Draws {
 /// The variable itself, which is counted from 0, along its line's direction.
 fn term_of(alloc: Global, variable: usize) -> Result<TermRow, AllocError>
     requires { variable < 6 }
-    ensures { IfOk result (λ t. t ≡ record { c = pos 1; j = pos 1; powers = powers_of_variable variable }) }
+    ensures { IfOk result
+        (λ t. t ≡ record { c = pos 1; j = pos 1; powers = powers_of_variable variable }) }
 {
     let mut powers = [0; LINES];
     powers[variable] = 1;
@@ -109,5 +110,7 @@ pub(crate) fn generated_file(alloc: Global, number: u32) -> Result<TextFile, All
     Ok(TextFile {
         vars: LINES as i64,
         lines: Rows::from_vec(lines),
+        asks: Rows::new(alloc),
+        settle: None,
     })
 }

@@ -4,10 +4,12 @@ pub mod Cuts
 pub mod Spelling
 pub mod Tokens
 pub mod Words
+pub mod RowForms
 pub mod Slots
 pub mod RowShapes
 pub mod AddedRows
 pub mod Lines
+pub mod AskRows
 pub mod StageRows
 pub mod KnownTerms
 pub mod Texts

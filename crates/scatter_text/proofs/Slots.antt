@@ -1,19 +1,21 @@
 -- The tokens of slots: what is left after one slot, and the values that they say.
-use Rattle.std.proofs.Common.{◌≡◌, ◌↔◌, ℕ, ◌+◌, ◌-◌, ◌<◌, ◌≤◌, List, [], ◌∷◌, ◌++◌, length, map, take, drop, get_or, refl, arith, sym, ◌∙◌, ap, subst, All, ℤ}
+use Rattle.std.proofs.Common.{◌≡◌, ◌↔◌, ℕ, ◌+◌, ◌-◌, ◌<◌, ◌≤◌, List, [], ◌∷◌, ◌++◌, length, map, take, drop, get_or, refl, arith, sym, ◌∙◌, ap, subst, All, Contains, ℤ}
 use Rattle.std.specs.Prelude.{flat_map}
 use Rattle.std.specs.Fmt.{signed_decimal}
 use Rattle.std.specs.List.{AllByRecursion}
 use Rattle.std.proofs.lemmas.List.{drop_more, drop_all, drop-drop, drop-map, take-map, take-append-drop, take_at, drop_at, length-map, length-drop, length-append, length-take-le, append_assoc, append-nil}
 use Rattle.std.proofs.lemmas.List.Elements.{All-nil, All-cons, All-map, All-same, recursion_from_All}
+use Rattle.scatter_text.specs.declared.grammar.Keyword.{Keyword}
 use Rattle.scatter_text.specs.declared.grammar.Slot.{Slot}
 use Rattle.scatter_text.specs.declared.grammar.Slot.TheVariants as slot
 use Rattle.scatter_text.specs.declared.row.RowValue.{RowValue}
 use Rattle.scatter_text.specs.declared.row.RowValue.TheVariants as value
 use Rattle.scatter_text.specs.declared.row.Row.{Row}
-use Rattle.scatter_text.specs.Grammar.{IsShort, IsNumberText, text_of_fixed, slots_of, token_count, IsInPlace, IsSpelled, HasForm, AreSpelled, slot_of, value_tokens, IsSpellable, FillsSlots, row_tokens}
+use Rattle.scatter_text.specs.Grammar.{IsShort, IsNumberText, text_of_fixed, forms_of, slots_of, token_count, IsInPlace, IsSpelled, HasForm, AreSpelled, slot_of, value_tokens, IsSpellable, FillsSlots, row_tokens}
 use Rattle.scatter_text.specs.Reading.{AreOfSlot, IsValueOf, AreValuesOf}
 use Rattle.scatter_text.proofs.Spelling.{coordinate-same, number-injective}
 use Rattle.scatter_text.proofs.Words.{word_injective}
+use Rattle.scatter_text.proofs.RowForms.{one-form}
 
 -- ---- one slot after the other
 
@@ -212,10 +214,17 @@ values-same variables (v ∷ values) (w ∷ others) s g h e =
     let rest = values-same variables values others kinds g.1 h.1 back in
     λ i. first i ∷ rest i
 
+fills-form : (variables : ℕ) (r : Row) (h : FillsSlots variables r) → HasForm variables (slots_of h.row_form) (flat_map value_tokens r.values)
+fills-form variables r h = form-of_values variables (slots_of h.row_form) (flat_map value_tokens r.values) r.values (record { fill = h.slots; spellable = h.spellable; text = refl })
+
 pub row-same : (variables : ℕ) (r s : Row) → FillsSlots variables r → FillsSlots variables s → row_tokens r ≡ row_tokens s → r ≡ s
 row-same variables r s g h e =
     let word : r.keyword ≡ s.keyword = word_injective r.keyword s.keyword (ap (λ (ts : List (List ℕ)). get_or ts 0 []) e) in
+    let rest : flat_map value_tokens r.values ≡ flat_map value_tokens s.values = ap (λ (ts : List (List ℕ)). drop 1 ts) e in
+    let C : Keyword → Type 0 = λ k. Contains (forms_of k) g.row_form in
+    let F : List (List ℕ) → Type 0 = λ tokens. HasForm variables (slots_of h.row_form) tokens in
+    let one : g.row_form ≡ h.row_form =
+    one-form variables s.keyword g.row_form h.row_form (flat_map value_tokens r.values) (subst C word g.of_keyword) h.of_keyword (fills-form variables r g) (subst F (sym rest) (fills-form variables s h)) in
     let values : r.values ≡ s.values =
-    values-same variables r.values s.values (g.slots ∙ ap slots_of word ∙ sym h.slots) (recursion_from_All (IsSpellable variables) r.values g.spellable) (recursion_from_All (IsSpellable variables) s.values h.spellable)
-    (ap (λ (ts : List (List ℕ)). drop 1 ts) e) in
+    values-same variables r.values s.values (g.slots ∙ ap slots_of one ∙ sym h.slots) (recursion_from_All (IsSpellable variables) r.values g.spellable) (recursion_from_All (IsSpellable variables) s.values h.spellable) rest in
     λ i. record { keyword = word i; values = values i }

@@ -10,7 +10,9 @@ use Rattle.scatter_text.specs.declared.row.Row.{Row}
 use Rattle.scatter_text.specs.Grammar.{line_row, term_row, rows_onto, place_after, vars_of, terms_before}
 use Rattle.scatter_text.specs.declared.stage.Stage.{Stage}
 use Rattle.scatter_text.specs.declared.stage.Stage.TheVariants as stage
+use Rattle.scatter_text.specs.declared.ask_list.AskList.{AskList}
 use Rattle.scatter_text.specs.Stages.{head_rows, rows_of}
+use Rattle.scatter_text.proofs.AskRows.{place_after-asked}
 
 abbrev with_terms : List Row → List TermRow → List Row
 with_terms rows terms = fold (λ rows term. term_row term ∷ rows) rows terms
@@ -55,9 +57,10 @@ pub lines-line : (before : List Row) (lines : List LineRow) (l : LineRow) → fo
 lines-line before lines l = fold-append rows_onto before lines (l ∷ [])
 
 -- only after the end stands nothing
-pub not_whole : (s : Stage) → ((vars : ℤ) (lines : Vec LineRow Global) → s ≡ stage.Whole vars lines → ⊥) → place_after (rows_of s) ≢ place.After
+pub not_whole : (s : Stage) → ((vars : ℤ) (lines : Vec LineRow Global) (asks : AskList) → s ≡ stage.Whole vars lines asks → ⊥) → place_after (rows_of s) ≢ place.After
 not_whole stage.Start other e = cc
 not_whole stage.Version other e = cc
 not_whole (stage.Head vars) other e = cc
 not_whole (stage.Body vars lines last) other e = let here : place.Terms ≡ place.After = sym (place_after-line (fold rows_onto (head_rows vars) lines.items) last.row) ∙ e in cc
-not_whole (stage.Whole vars lines) other e = other vars lines refl
+not_whole (stage.Asking vars lines asks) other e = let here : place.Asks ≡ place.After = sym (place_after-asked (fold rows_onto (head_rows vars) lines.items) asks.list.asks.items asks.list.settle asks.some) ∙ e in cc
+not_whole (stage.Whole vars lines asks) other e = other vars lines asks refl

@@ -7,9 +7,10 @@ use Rattle.scattering.specs.Collections.{Every}
 use Rattle.scattering.proofs.Lists.{or-false}
 use Rattle.scatter_text.specs.declared.file.LineRow.{LineRow}
 use Rattle.scatter_text.specs.declared.file.TermRow.{TermRow}
+use Rattle.scatter_text.specs.declared.file.AskRow.{AskRow}
 use Rattle.scatter_text.specs.declared.file.TextFile.{TextFile}
 use Rattle.scatter_text.specs.declared.fault.LimitKind.{LimitKind}
-use Rattle.scatter_text.specs.Limits.{limit_of, limits_by, has_many_vars, has_large_coefficient, is_exponent_large, has_large_exponent, is_power_large, has_large_power, IsWithinLimits}
+use Rattle.scatter_text.specs.Limits.{limit_of, first_limit, limits_by, is_far, has_many_vars, has_large_coefficient, is_exponent_large, has_large_exponent, is_power_large, has_large_power, IsWithinLimits}
 
 -- ---- tests that fail
 
@@ -23,9 +24,9 @@ all-pass [] e = tt
 all-pass ((kind, true) ∷ limits) e = absurd (cc)
 all-pass ((kind, false) ∷ limits) e = (refl, all-pass limits e)
 
-pub within-limits : (file : TextFile) (order : ℕ) → limit_of file order ≡ None → IsWithinLimits file
-within-limits file order e =
-    let all = all-pass (limits_by file.vars file.lines order) e in
+pub within-first-limit : (file : TextFile) (order readers : ℕ) → first_limit file order readers ≡ None → IsWithinLimits file
+within-first-limit file order readers e =
+    let all = all-pass (limits_by file.vars file.lines file.asks order readers) e in
     record {
       vars = all.0;
       lines = all.1.1.0;
@@ -33,8 +34,11 @@ within-limits file order e =
       coefficients = all.1.1.1.1.0;
       exponents = all.1.1.1.1.1.0;
       powers = all.1.1.1.1.1.1.0;
-      points = all.1.1.1.1.1.1.1.0;
+      points = (or-false (list_any (λ (l : LineRow). is_far l.x l.y) file.lines) (list_any (λ (a : AskRow). is_far a.x a.y) file.asks) all.1.1.1.1.1.1.1.0).0;
     }
+
+pub within-limits : (file : TextFile) (order : ℕ) → limit_of file order ≡ None → IsWithinLimits file
+within-limits file order e = within-first-limit file order 1 e
 
 -- ---- small numbers
 

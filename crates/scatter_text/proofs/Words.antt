@@ -12,7 +12,7 @@ are_same (x ∷ xs) [] = false
 are_same (x ∷ xs) (y ∷ ys) = (x == y) && are_same xs ys
 
 keywords : List Keyword
-keywords = keyword.Scatter ∷ keyword.Vars ∷ keyword.Line ∷ keyword.Term ∷ keyword.End ∷ []
+keywords = keyword.Scatter ∷ keyword.Vars ∷ keyword.Line ∷ keyword.Term ∷ keyword.Ask ∷ keyword.Settle ∷ keyword.End ∷ []
 
 -- the keyword of a word
 spelled : List ℕ → Option Keyword

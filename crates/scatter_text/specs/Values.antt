@@ -1,10 +1,12 @@
 -- The rules on the values of a file.
 use Rattle.std.specs.Prelude.{◌≡◌, ◌≢◌, ℕ, ◌≤ℤ◌, ℤ, pos, nat_abs, length, All, AllPairs, List}
+use Rattle.std.specs.Option.{ForSome}
 use Rattle.std.specs.Int.{IsGcd}
 use Rattle.frac_128.specs.Quotient.{IsLowest}
 use Rattle.scatter_text.specs.declared.file.Coordinate.{Coordinate}
 use Rattle.scatter_text.specs.declared.file.TermRow.{TermRow}
 use Rattle.scatter_text.specs.declared.file.LineRow.{LineRow}
+use Rattle.scatter_text.specs.declared.file.AskRow.{AskRow}
 
 -- no common divisor but 1
 abbrev pub AreCoprime : ℕ → ℕ → Type 0
@@ -39,3 +41,13 @@ pub record IsLine (vars : ℤ) (l : LineRow) : Type 0 where
 -- the lines of a file in that many variables
 abbrev pub AreLineRows : ℤ → List LineRow → Type 0
 AreLineRows vars lines = All (IsLine vars) lines
+
+-- readers are counted from 1, orders from 0
+pub record HasAskValues (a : AskRow) : Type 0 where
+  pub reader : pos 1 ≤ℤ a.reader
+  pub least : ForSome a.least (λ order. pos 0 ≤ℤ order)
+
+pub record IsAsk (a : AskRow) : Type 0 where
+  pub values : HasAskValues a
+  pub x : IsCoordinate a.x
+  pub y : IsCoordinate a.y

@@ -74,9 +74,17 @@ pub enum LimitKind {
     Exponent,
     /// A power of a variable above `limits::LARGEST_POWER`.
     Power,
-    /// A line's point that isn't near: over the least common denominator, a number above
+    /// A point of a line or ask that isn't near: over the least common denominator, a number above
     /// `limits::LARGEST_COORDINATE`.
     Place,
+    /// More than `limits::MOST_ASKS` asks.
+    Queries,
+    /// An exponent of an ask above `limits::LARGEST_GIVEN_EXPONENT` in absolute value.
+    AskExponent,
+    /// A reader above the number of readers.
+    Reader,
+    /// A least order above `limits::HIGHEST_ORDER`.
+    Least,
 }
 
 impl LimitKind {
@@ -97,6 +105,10 @@ impl LimitKind {
             LimitKind::Exponent => "exponent",
             LimitKind::Power => "power",
             LimitKind::Place => "point",
+            LimitKind::Queries => "queries",
+            LimitKind::AskExponent => "ask-exponent",
+            LimitKind::Reader => "reader",
+            LimitKind::Least => "least",
         }
     }
 }

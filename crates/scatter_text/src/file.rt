@@ -1,6 +1,7 @@
-// What a text says: lines in the plane, each with the terms of its function.
-ghost use Rattle.scatter_text.specs.Values.{AreLineRows};
-ghost use Rattle.std.specs.Prelude.{◌≡◌, ◌≤ℤ◌, pos, IfOk};
+// What a text says: lines in the plane, each with the terms of its function, and asks.
+ghost use Rattle.scatter_text.specs.Values.{AreLineRows, IsAsk};
+ghost use Rattle.std.specs.Prelude.{◌≡◌, ◌≤◌, ◌≤ℤ◌, pos, length, All, IfOk};
+ghost use Rattle.std.specs.Option.{ForSome};
 
 use crate::rows::Rows;
 use std::alloc::{AllocError, Global};
@@ -79,13 +80,37 @@ fn copied_lines(alloc: Global, lines: &[LineRow]) -> Result<Vec<LineRow>, AllocE
     Ok(copies)
 }
 
-/// The lines of a diagram, in `vars` variables.
+/// What is asked for.
+#[derive(Clone, Copy, Debug, PartialEq, Eq)]
+pub enum AskKind {
+    /// The theta function of the exponent (a, b).
+    Theta { a: i64, b: i64 },
+    /// The product of the theta functions of (a, b) and (c, d).
+    Product { a: i64, b: i64, c: i64, d: i64 },
+}
+
+/// An ask at the point (x, y), by a reader that is counted from 1, for an answer in the order `least` or a higher one, if it
+/// is given.
+#[derive(Clone, Copy, Debug, PartialEq, Eq)]
+pub struct AskRow {
+    pub reader: i64,
+    pub kind: AskKind,
+    pub x: Coordinate,
+    pub y: Coordinate,
+    pub least: Option<i64>,
+}
+
+/// The lines of a diagram, in `vars` variables, and asks about it. Where the word `settle` stands, it is after so many asks.
 #[derive(Drop)]
 pub struct TextFile {
     pub vars: i64,
     pub lines: Rows<LineRow>,
+    pub asks: Rows<AskRow>,
+    pub settle: Option<usize>,
     pub ghost variables: { pos 1 ≤ℤ vars },
     pub ghost valid: { AreLineRows vars lines },
+    pub ghost valid_asks: { All IsAsk asks },
+    pub ghost settled: { ForSome settle (λ n. n ≤ length asks) },
 }
 
 impl TextFile {
@@ -93,11 +118,15 @@ impl TextFile {
     pub fn copy(&self) -> Result<TextFile, AllocError>
         ensures vars { IfOk result (λ file. file.vars ≡ self.now.vars) }
         ensures lines { IfOk result (λ file. file.lines ≡ self.now.lines) }
+        ensures asks { IfOk result (λ file. file.asks ≡ self.now.asks) }
+        ensures settle { IfOk result (λ file. file.settle ≡ self.now.settle) }
     {
         let lines = copied_lines(self.lines.allocator(), self.lines.as_slice())?;
         Ok(TextFile {
             vars: self.vars,
             lines: Rows::from_vec(lines),
+            asks: self.asks.copy()?,
+            settle: self.settle,
         })
     }
 }

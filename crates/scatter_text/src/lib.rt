@@ -1,8 +1,9 @@
-// The text that describes lines of a scattering diagram: its types, its reader, the limits of what is accepted, and the
-// initial lines that it says. Also the text of a completed diagram.
+// The text that describes lines of a scattering diagram and asks about it: its types, its reader, the limits of what is
+// accepted, and the initial lines that it says. Also the text of a completed diagram.
 #![tactic(auto)]
 
 mod along;
+mod ask_list;
 mod fault;
 mod file;
 mod grammar;
@@ -19,7 +20,8 @@ mod rows;
 mod stage;
 
 pub use fault::{LimitKind, TextFault, TextKind};
-pub use file::{Coordinate, LineRow, TermRow, TextFile};
+pub use file::{AskKind, AskRow, Coordinate, LineRow, TermRow, TextFile};
+pub use grammar::TextMode;
 pub use initial::initial_of;
 pub use laws::one_text;
 pub use limit_checks::check_limits;

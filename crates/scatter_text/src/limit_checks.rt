@@ -2,21 +2,22 @@
 ghost use Rattle.std.specs.Prelude.{◌≡◌, pos, nat_abs, nat_lt, ◌≤ℤ◌, All, ◌+◌, ◌<◌, ◌≤◌, ◌^◌, ◌||◌};
 ghost use Rattle.std.specs.List.{list_any};
 ghost use Rattle.limits.specs.Limits.{most_variables, most_monomials};
-ghost use Rattle.scatter_text.specs.Limits.{binomial, gcd, limit_of, has_many_vars, has_many_monomials, has_many_lines, has_many_terms, has_large_coefficient, is_exponent_large, has_large_exponent, is_power_large, has_large_power, is_far};
+ghost use Rattle.scatter_text.specs.Limits.{binomial, gcd, first_limit, has_many_asks, has_large_ask_exponent, has_high_reader, has_high_least, has_many_vars, has_many_monomials, has_many_lines, has_many_terms, has_large_coefficient, is_exponent_large, has_large_exponent, is_power_large, has_large_power, is_far};
 
 use crate::fault::LimitKind;
-use crate::file::{Coordinate, LineRow, TermRow, TextFile};
+use crate::file::{AskKind, AskRow, Coordinate, LineRow, TermRow, TextFile};
 use frac_128::gcd;
 use limits::{
-    LARGEST_COEFFICIENT, LARGEST_COORDINATE, LARGEST_GIVEN_EXPONENT, LARGEST_POWER, MOST_LINES,
-    MOST_MONOMIALS, MOST_TERMS, MOST_VARIABLES,
+    HIGHEST_ORDER, LARGEST_COEFFICIENT, LARGEST_COORDINATE, LARGEST_GIVEN_EXPONENT, LARGEST_POWER,
+    MOST_ASKS, MOST_LINES, MOST_MONOMIALS, MOST_TERMS, MOST_VARIABLES,
 };
 
-/// The first limit that a file passes when it is to be completed to an order, never `Bytes`.
-pub fn check_limits(file: &TextFile, order: u32) -> Option<LimitKind>
-    ensures { result ≡ limit_of file.now order }
+/// The first limit that a file passes when it is to be completed to an order and asked by so many readers, never `Bytes`.
+pub fn check_limits(file: &TextFile, order: u32, readers: u32) -> Option<LimitKind>
+    ensures { result ≡ first_limit file.now order readers }
 {
     let lines = file.lines.as_slice();
+    let asks = file.asks.as_slice();
     if has_many_vars(file.vars) {
         Some(LimitKind::Vars)
     } else if has_many_monomials(order, file.vars) {
@@ -31,8 +32,16 @@ pub fn check_limits(file: &TextFile, order: u32) -> Option<LimitKind>
         Some(LimitKind::Exponent)
     } else if have_large_power(lines) {
         Some(LimitKind::Power)
-    } else if have_far_point(lines) {
+    } else if have_far_point(lines) || have_far_ask(asks) {
         Some(LimitKind::Place)
+    } else if has_many_asks(asks) {
+        Some(LimitKind::Queries)
+    } else if have_large_ask_exponent(asks) {
+        Some(LimitKind::AskExponent)
+    } else if have_high_reader(asks, readers) {
+        Some(LimitKind::Reader)
+    } else if have_high_least(asks) {
+        Some(LimitKind::Least)
     } else {
         None
     }
@@ -162,6 +171,75 @@ fn have_far_point(lines: &[LineRow]) -> bool
         }
     }
     false
+}
+
+fn have_far_ask(asks: &[AskRow]) -> bool
+    requires { All (λ a. (pos 1 ≤ℤ a.x.den) × (pos 1 ≤ℤ a.y.den)) asks.now }
+    ensures { result ≡ list_any (λ a. is_far a.x a.y) asks.now }
+{
+    for ask in asks {
+        if is_far(ask.x, ask.y) {
+            return true;
+        }
+    }
+    false
+}
+
+#[tactic(auto, unfolding(crate::specs::Limits::has_many_asks))]
+fn has_many_asks(asks: &[AskRow]) -> bool
+    ensures { result ≡ has_many_asks asks.now }
+{
+    asks.len() > MOST_ASKS
+}
+
+fn have_large_ask_exponent(asks: &[AskRow]) -> bool
+    ensures { result ≡ list_any has_large_ask_exponent asks.now }
+{
+    asks.iter().any(has_large_ask_exponent)
+}
+
+#[tactic(auto, unfolding(crate::specs::Limits::has_large_ask_exponent))]
+fn has_large_ask_exponent(ask: &AskRow) -> bool
+    ensures { result ≡ has_large_ask_exponent ask.now }
+{
+    match ask.kind {
+        AskKind::Theta { a, b } => is_exponent_large(1, a) || is_exponent_large(1, b),
+        AskKind::Product { a, b, c, d } => {
+            is_exponent_large(1, a)
+                || is_exponent_large(1, b)
+                || is_exponent_large(1, c)
+                || is_exponent_large(1, d)
+        }
+    }
+}
+
+fn have_high_reader(asks: &[AskRow], readers: u32) -> bool
+    ensures { result ≡ list_any (has_high_reader readers) asks.now }
+{
+    asks.iter().any(|a| has_high_reader(a, readers))
+}
+
+#[tactic(auto, unfolding(crate::specs::Limits::has_high_reader))]
+fn has_high_reader(ask: &AskRow, readers: u32) -> bool
+    ensures { result ≡ has_high_reader readers ask.now }
+{
+    ask.reader.unsigned_abs() > u64::from(readers)
+}
+
+fn have_high_least(asks: &[AskRow]) -> bool
+    ensures { result ≡ list_any has_high_least asks.now }
+{
+    asks.iter().any(has_high_least)
+}
+
+#[tactic(auto, unfolding(crate::specs::Limits::has_high_least))]
+fn has_high_least(ask: &AskRow) -> bool
+    ensures { result ≡ has_high_least ask.now }
+{
+    match ask.least {
+        Some(order) => order.unsigned_abs() > u64::from(HIGHEST_ORDER),
+        None => false,
+    }
 }
 
 /// The greatest common divisor.

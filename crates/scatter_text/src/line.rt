@@ -1,10 +1,10 @@
 // One line of a text: its tests in their order, and the row that it says.
 ghost use Rattle.std.specs.Prelude.{◌≡◌, ◌≢◌, ◌≤◌, [], IsTrue, ◌↔◌, All, ◌<◌, ◌+◌, map, take, drop, length, IfOk, MatchOption};
-ghost use Rattle.scatter_text.specs.Grammar.{HasForm, AreSpelled, IsInPlace, IsSpelled, IsNumberText, tokens_of};
-ghost use Rattle.scatter_text.specs.Reading.{Say, AreBadTokens, AreOfSlot, IsValueOf, AreValuesOf, IfBad, IsUnvaluedAt, IsBadAt, AreNumbersOf};
+ghost use Rattle.scatter_text.specs.Grammar.{HasForm, HasSomeForm, AreSpelled, IsInPlace, IsSpelled, IsNumberText, tokens_of};
+ghost use Rattle.scatter_text.specs.Reading.{Say, AreBadTokens, IsFormOf, AreOfSlot, IsValueOf, AreValuesOf, IfBad, IsUnvaluedAt, IsBadAt, AreNumbersOf};
 
 use crate::fault::TextKind;
-use crate::grammar::{Place, Slot, TextForm};
+use crate::grammar::{Keyword, Place, RowForm, Slot, TextMode};
 use crate::number::{coordinate, number};
 use crate::row::{Row, RowValue};
 use crate::rows::Rows;
@@ -42,13 +42,13 @@ impl From<AllocError> for LineFault {
 /// What a line says at a place, but for the rules on values.
 pub fn row_at(
     alloc: Global,
-    form: TextForm,
+    mode: TextMode,
     place: Place,
     variables: usize,
     line: &[u8],
 ) -> Result<Row, LineFault>
-    ensures ok { IfOk result (IsUnvaluedAt form place variables line.now) }
-    ensures bad { IfBad result (IsBadAt form place variables line.now) }
+    ensures ok { IfOk result (IsUnvaluedAt mode place variables line.now) }
+    ensures bad { IfBad result (IsBadAt mode place variables line.now) }
 {
     if !is_printable(line) {
         return Err(LineFault::Bad(TextKind::Byte));
@@ -57,35 +57,48 @@ pub fn row_at(
     if !are_separate(&tokens) {
         return Err(LineFault::Bad(TextKind::Shape));
     }
-    row_from(alloc, form, place, variables, &tokens)
+    row_from(alloc, mode, place, variables, &tokens)
 }
 
 /// What the tokens of a line say at a place, but for the rules on values.
 fn row_from(
     alloc: Global,
-    form: TextForm,
+    mode: TextMode,
     place: Place,
     variables: usize,
     tokens: &[&[u8]],
 ) -> Result<Row, LineFault>
     requires { 0 < length tokens.now }
-    ensures ok { IfOk result (Say form place variables (map (λ t. t.now) tokens.now)) }
-    ensures bad { IfBad result (AreBadTokens form place variables (map (λ t. t.now) tokens.now)) }
+    ensures ok { IfOk result (Say mode place variables (map (λ t. t.now) tokens.now)) }
+    ensures bad { IfBad result (AreBadTokens mode place variables (map (λ t. t.now) tokens.now)) }
 {
-    match form.keyword(place, tokens[0]) {
+    match mode.keyword(place, tokens[0]) {
         Some(keyword) => {
-            let slots = keyword.slots();
             let rest = &tokens[1..];
-            if !has_form(variables, slots, rest) {
+            let Some(form) = form_of(keyword, variables, rest) else {
                 return Err(LineFault::Bad(TextKind::Count));
-            }
-            match values_of(alloc, variables, slots, rest)? {
+            };
+            match values_of(alloc, variables, form.slots(), rest)? {
                 Some(values) => Ok(Row { keyword, values }),
                 None => Err(LineFault::Bad(TextKind::Number)),
             }
         }
         None => Err(LineFault::Bad(TextKind::Word)),
     }
+}
+
+/// Which form of the keyword's lines the tokens after it have.
+fn form_of(keyword: Keyword, variables: usize, tokens: &[&[u8]]) -> Option<RowForm>
+    ensures { MatchOption result (¬ HasSomeForm variables keyword (map (λ t. t.now) tokens.now))
+        (IsFormOf variables keyword (map (λ t. t.now) tokens.now)) }
+{
+    let forms = keyword.forms();
+    for form in forms {
+        if has_form(variables, form.slots(), tokens) {
+            return Some(*form);
+        }
+    }
+    None
 }
 
 fn is_printable(line: &[u8]) -> bool

@@ -1,16 +1,17 @@
 // Reading a text line by line, by what the rows before a line allow.
 ghost use Rattle.std.specs.Prelude.{◌≡◌, List, ℕ, ◌≤◌, [], ◌∷◌, length, IfOk};
 ghost use Rattle.limits.specs.Limits.{most_bytes};
-ghost use Rattle.scatter_text.specs.Grammar.{IsTextOf, IsTextFault, file_text, file_rows, HasValues, IsBadLine, IsFaultAfter};
+ghost use Rattle.scatter_text.specs.Grammar.{IsTextIn, IsFaultIn, file_text, file_rows, HasValues, IsBadLine, IsFaultAtEnd};
 ghost use Rattle.scatter_text.specs.Reading.{IfBad, IsUnvaluedLine};
 ghost use Rattle.scatter_text.specs.Stages.{rows_of, Follows, AreRead};
 ghost use Rattle.scatter_text.specs.declared.fault.TextKind.{TextKind};
-ghost use Rattle.scatter_text.specs.declared.grammar.TextForm.TheVariants.{InitialLines};
+ghost use Rattle.scatter_text.specs.declared.grammar.TextMode.{TextMode};
 ghost use Rattle.scatter_text.specs.declared.file.TextFile.{TextFile};
 
+use crate::ask_list::AskList;
 use crate::fault::{TextFault, TextKind};
 use crate::file::TextFile;
-use crate::grammar::TextForm;
+use crate::grammar::TextMode;
 use crate::line::{LineFault, row_at};
 use crate::number::find_byte;
 use crate::row::Row;
@@ -18,19 +19,20 @@ use crate::rows::Rows;
 use crate::stage::Stage;
 use std::alloc::Global;
 
-/// The file that a text says, or `Bad` with its first fault: the line, counted from 1, and the kind. `Memory` may come on any text.
-pub fn read_text(alloc: Global, bytes: &[u8]) -> Result<TextFile, TextFault>
+/// The file that a text says, or `Bad` with its first fault: the line, counted from 1, and the kind. In the mode `Lines` asks are
+/// faults. `Memory` may come on any text.
+pub fn read_text(alloc: Global, bytes: &[u8], mode: TextMode) -> Result<TextFile, TextFault>
     requires { length bytes.now ≤ most_bytes }
-    ensures file { IfOk result (IsTextOf bytes.now) }
+    ensures file { IfOk result (IsTextIn mode bytes.now) }
     ensures spelling { IfOk result (λ file. bytes.now ≡ file_text file) }
     ensures fault { (line : ℕ) (kind : TextKind) → result ≡ Err (TextFault.Bad line kind)
-        → IsTextFault bytes.now line kind }
+        → IsFaultIn mode bytes.now line kind }
 {
     let mut stage = Stage::Start;
     let mut rest = bytes;
     let mut number: u32 = 1;
     while let Some(end) = find_byte(rest, b'\n') {
-        match next(alloc, stage, &rest[..end]) {
+        match next(alloc, mode, stage, &rest[..end]) {
             Ok(more) => stage = more,
             Err(fault) => return Err(at(fault, number)),
         }
@@ -40,14 +42,15 @@ pub fn read_text(alloc: Global, bytes: &[u8]) -> Result<TextFile, TextFault>
     finish(stage, rest, number)
 }
 
-/// No text has both a file and a fault, nor two faults, nor two files.
+/// In no mode a text has both a file and a fault, nor two faults, nor two files.
 pub fn one_outcome()
-    ensures file_or_fault { (bytes : List ℕ) (file : TextFile) (line : ℕ) (kind : TextKind)
-        → IsTextOf bytes file → IsTextFault bytes line kind → ⊥ }
-    ensures one_fault { (bytes : List ℕ) (l m : ℕ) (k j : TextKind)
-        → IsTextFault bytes l k → IsTextFault bytes m j → (l ≡ m) × (k ≡ j) }
-    ensures one_file { (bytes : List ℕ) (f g : TextFile)
-        → IsTextOf bytes f → IsTextOf bytes g → (f.vars ≡ g.vars) × (f.lines ≡ g.lines) }
+    ensures file_or_fault { (mode : TextMode) (bytes : List ℕ) (file : TextFile) (line : ℕ)
+        (kind : TextKind) → IsTextIn mode bytes file → IsFaultIn mode bytes line kind → ⊥ }
+    ensures one_fault { (mode : TextMode) (bytes : List ℕ) (l m : ℕ) (k j : TextKind)
+        → IsFaultIn mode bytes l k → IsFaultIn mode bytes m j → (l ≡ m) × (k ≡ j) }
+    ensures one_file { (mode : TextMode) (bytes : List ℕ) (f g : TextFile)
+        → IsTextIn mode bytes f → IsTextIn mode bytes g
+        → (f.vars ≡ g.vars) × (f.lines ≡ g.lines) × (f.asks ≡ g.asks) × (f.settle ≡ g.settle) }
 {}
 
 /// A line's fault as that of a text.
@@ -62,22 +65,21 @@ fn at(fault: LineFault, line: u32) -> TextFault
 }
 
 /// The stage after one line more.
-fn next(alloc: Global, stage: Stage, line: &[u8]) -> Result<Stage, LineFault>
-    ensures ok { IfOk result (λ more. Follows (rows_of stage) line.now (rows_of more)) }
-    ensures bad { IfBad result (IsBadLine InitialLines (rows_of stage) line.now) }
+fn next(alloc: Global, mode: TextMode, stage: Stage, line: &[u8]) -> Result<Stage, LineFault>
+    ensures ok { IfOk result (λ more. Follows mode (rows_of stage) line.now (rows_of more)) }
+    ensures bad { IfBad result (IsBadLine mode (rows_of stage) line.now) }
 {
-    let row = allowed_row(alloc, &stage, line)?;
+    let row = allowed_row(alloc, mode, &stage, line)?;
     Ok(stage.with(alloc, row)?)
 }
 
 /// The row of a line that comes next, if the line is good.
-fn allowed_row(alloc: Global, stage: &Stage, line: &[u8]) -> Result<Row, LineFault>
-    ensures row { IfOk result (IsUnvaluedLine InitialLines (rows_of stage.now) line.now) }
+fn allowed_row(alloc: Global, mode: TextMode, stage: &Stage, line: &[u8]) -> Result<Row, LineFault>
+    ensures row { IfOk result (IsUnvaluedLine mode (rows_of stage.now) line.now) }
     ensures values { IfOk result (λ row. HasValues (rows_of stage.now) row.keyword row.values) }
-    ensures bad { IfBad result (IsBadLine InitialLines (rows_of stage.now) line.now) }
+    ensures bad { IfBad result (IsBadLine mode (rows_of stage.now) line.now) }
 {
-    let form = TextForm::InitialLines;
-    let row = row_at(alloc, form, stage.place(), stage.variables(), line)?;
+    let row = row_at(alloc, mode, stage.place(), stage.variables(), line)?;
     if !stage.allows(alloc, &row)? {
         return Err(LineFault::Bad(TextKind::Value));
     }
@@ -89,17 +91,22 @@ fn finish(stage: Stage, rest: &[u8], line: u32) -> Result<TextFile, TextFault>
     requires { AreRead (rows_of stage) }
     ensures ok { IfOk result (λ file. (rest.now ≡ []) × (file_rows file ≡ rows_of stage)) }
     ensures bad { (at : ℕ) (kind : TextKind) → result ≡ Err (TextFault.Bad at kind)
-        → (at ≡ line) × IsFaultAfter InitialLines (rows_of stage) (rest.now ∷ []) kind }
+        → (at ≡ line) × IsFaultAtEnd (rows_of stage) rest.now kind }
 {
     if !rest.is_empty() {
         let kind = TextKind::Unfinished;
         return Err(TextFault::Bad { line, kind });
     }
     match stage {
-        Stage::Whole { vars, lines } => Ok(TextFile {
-            vars,
-            lines: Rows::from_vec(lines),
-        }),
+        Stage::Whole { vars, lines, asks } => {
+            let AskList { asks, settle } = asks;
+            Ok(TextFile {
+                vars,
+                lines: Rows::from_vec(lines),
+                asks: Rows::from_vec(asks),
+                settle,
+            })
+        }
         _ => {
             let kind = TextKind::Missing;
             Err(TextFault::Bad { line, kind })

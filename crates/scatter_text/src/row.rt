@@ -1,8 +1,8 @@
 // What a line says: its keyword, and a value for each slot after it.
 ghost use Rattle.std.specs.Prelude.{◌≡◌, IfOk};
-ghost use Rattle.scatter_text.specs.Grammar.{number_in, coordinate_in, powers_in, term_said};
+ghost use Rattle.scatter_text.specs.Grammar.{number_in, number_given, coordinate_in, powers_in, term_said, ask_said, theta_said, product_said};
 
-use crate::file::{Coordinate, TermRow};
+use crate::file::{AskKind, AskRow, Coordinate, TermRow};
 use crate::grammar::{FixedWord, Keyword};
 use crate::rows::Rows;
 use std::alloc::{AllocError, Global};
@@ -31,6 +31,16 @@ impl Row {
         match self.values.as_slice().get(i) {
             Some(RowValue::Number(n)) => *n,
             _ => 0,
+        }
+    }
+
+    /// The number at a place among the values, if one is given.
+    fn given(&self, i: usize) -> Option<i64>
+        ensures { result ≡ number_given self.now.values i }
+    {
+        match self.values.as_slice().get(i) {
+            Some(RowValue::Number(n)) => Some(*n),
+            _ => None,
         }
     }
 
@@ -63,5 +73,49 @@ impl Row {
             j: self.number(1),
             powers: self.powers(alloc, 2)?,
         })
+    }
+
+    /// The ask that the row says.
+    pub fn ask(&self) -> AskRow
+        ensures { result ≡ ask_said self.now.values }
+    {
+        match self.values.as_slice().get(1) {
+            Some(RowValue::Fixed(FixedWord::Product)) => self.product(),
+            _ => self.theta(),
+        }
+    }
+
+    /// The ask for a theta function.
+    fn theta(&self) -> AskRow
+        ensures { result ≡ theta_said self.now.values }
+    {
+        AskRow {
+            reader: self.number(0),
+            kind: AskKind::Theta {
+                a: self.number(2),
+                b: self.number(3),
+            },
+            x: self.coordinate(5),
+            y: self.coordinate(6),
+            least: self.given(8),
+        }
+    }
+
+    /// The ask for a product.
+    fn product(&self) -> AskRow
+        ensures { result ≡ product_said self.now.values }
+    {
+        AskRow {
+            reader: self.number(0),
+            kind: AskKind::Product {
+                a: self.number(2),
+                b: self.number(3),
+                c: self.number(4),
+                d: self.number(5),
+            },
+            x: self.coordinate(7),
+            y: self.coordinate(8),
+            least: self.given(10),
+        }
     }
 }

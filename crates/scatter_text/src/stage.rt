@@ -1,12 +1,13 @@
 // How far a text is read: the rows so far, as the file that they begin.
-ghost use Rattle.std.specs.Prelude.{◌≡◌, [], ◌∷◌, ◌++◌, IsTrue, ◌↔◌, IfOk, Contains, All, nat_abs, pos, ◌≤ℤ◌};
-ghost use Rattle.scatter_text.specs.Grammar.{place_after, variables_of, words_at, FillsSlots, HasValues, IsNewTerm, IsTermAfter, line_said};
-ghost use Rattle.scatter_text.specs.Stages.{head_rows, rows_of};
-ghost use Rattle.scatter_text.specs.declared.grammar.TextForm.TheVariants.{InitialLines};
-ghost use Rattle.scatter_text.specs.declared.stage.Stage.TheVariants.{Body};
-ghost use Rattle.scatter_text.specs.Values.{AreCoprime, IsTermRow};
+ghost use Rattle.std.specs.Prelude.{◌≡◌, [], ◌∷◌, ◌++◌, IsTrue, ◌↔◌, IfOk, All, nat_abs, pos, ◌≤ℤ◌};
+ghost use Rattle.std.specs.Option.{ForSome};
+ghost use Rattle.scatter_text.specs.Grammar.{place_after, variables_of, is_settled, HasValues, IsNewTerm, IsTermAfter, line_said};
+ghost use Rattle.scatter_text.specs.Stages.{rows_of, asks_rows, CanFollow, CanEnd};
+ghost use Rattle.scatter_text.specs.declared.stage.Stage.TheVariants.{Head, Body};
+ghost use Rattle.scatter_text.specs.Values.{AreCoprime, IsTermRow, HasAskValues};
 
-use crate::file::{LineRow, TermRow};
+use crate::ask_list::{AskList, OpenAsks};
+use crate::file::{AskRow, LineRow, TermRow};
 use crate::grammar::{Keyword, Place};
 use crate::open_line::OpenLine;
 use crate::row::Row;
@@ -28,10 +29,17 @@ pub enum Stage {
         lines: Vec<LineRow>,
         last: OpenLine,
     },
+    /// All lines, and the asks so far.
+    Asking {
+        vars: i64,
+        lines: Vec<LineRow>,
+        asks: OpenAsks,
+    },
     /// The text has ended.
     Whole {
         vars: i64,
         lines: Vec<LineRow>,
+        asks: AskList,
     },
 }
 
@@ -45,6 +53,7 @@ impl Stage {
             Stage::Version => Place::Version,
             Stage::Head { .. } => Place::Lines,
             Stage::Body { .. } => Place::Terms,
+            Stage::Asking { .. } => Place::Asks,
             Stage::Whole { .. } => Place::After,
         }
     }
@@ -57,6 +66,7 @@ impl Stage {
             Stage::Start | Stage::Version => 0,
             Stage::Head { vars } => vars.unsigned_abs() as usize,
             Stage::Body { vars, .. } => vars.unsigned_abs() as usize,
+            Stage::Asking { vars, .. } => vars.unsigned_abs() as usize,
             Stage::Whole { vars, .. } => vars.unsigned_abs() as usize,
         }
     }
@@ -74,7 +84,21 @@ impl Stage {
                 let term = row.term(alloc)?;
                 self.allows_term(alloc, &term)
             }
+            Keyword::Ask => Ok(is_ask(&row.ask())),
+            Keyword::Settle => Ok(!self.is_settled()),
             Keyword::End => Ok(true),
+        }
+    }
+
+    /// Whether `settle` stands among the rows so far.
+    fn is_settled(&self) -> bool
+        ensures { is_settled (rows_of self.now) ≡ result }
+    {
+        match self {
+            Stage::Start | Stage::Version | Stage::Head { .. } => false,
+            Stage::Body { .. } => false,
+            Stage::Asking { asks, .. } => asks.list.settle.is_some(),
+            Stage::Whole { asks, .. } => asks.settle.is_some(),
         }
     }
 
@@ -95,16 +119,14 @@ impl Stage {
     {
         match self {
             Stage::Body { last, .. } => last.lacks(alloc, term),
+            Stage::Asking { .. } => Ok(true),
             _ => Ok(true),
         }
     }
 
     /// The stage with one row more, which its place and the rules on values allow.
     pub fn with(self, alloc: Global, row: Row) -> Result<Stage, AllocError>
-        requires allowed { Contains
-            (words_at InitialLines (place_after (rows_of self))) row.keyword }
-        requires fills { FillsSlots (variables_of (rows_of self)) row }
-        requires values { HasValues (rows_of self) row.keyword row.values }
+        requires { CanFollow (rows_of self) row }
         ensures { IfOk result (λ next. rows_of next ≡ row ∷ rows_of self) }
     {
         match self {
@@ -112,30 +134,26 @@ impl Stage {
             Stage::Version => Ok(Stage::Head {
                 vars: row.number(0),
             }),
-            Stage::Head { vars } => Ok(begun(alloc, vars, &row)),
+            Stage::Head { vars } => begun(alloc, vars, &row),
             Stage::Body { vars, lines, last } => continued(alloc, vars, lines, last, &row),
+            Stage::Asking { vars, lines, asks } => asked(vars, lines, asks.list, &row),
             Stage::Whole { .. } => unreachable!(),
         }
     }
 }
 
 /// The stage after the first row that follows the number of variables.
-fn begun(alloc: Global, vars: i64, row: &Row) -> Stage
-    requires allowed { Contains
-        (words_at InitialLines (place_after (head_rows vars))) row.now.keyword }
-    requires fills { FillsSlots (variables_of (head_rows vars)) row.now }
-    ensures { rows_of result ≡ row.now ∷ head_rows vars }
+fn begun(alloc: Global, vars: i64, row: &Row) -> Result<Stage, AllocError>
+    requires { CanFollow (rows_of (Head vars)) row.now }
+    ensures { IfOk result (λ next. rows_of next ≡ row.now ∷ rows_of (Head vars)) }
 {
+    let lines = Vec::new(alloc);
     match row.keyword {
-        Keyword::Line => Stage::Body {
-            vars,
-            lines: Vec::new(alloc),
-            last: opened(alloc, row),
-        },
-        _ => Stage::Whole {
-            vars,
-            lines: Vec::new(alloc),
-        },
+        Keyword::Line => {
+            let last = opened(alloc, row);
+            Ok(Stage::Body { vars, lines, last })
+        }
+        _ => asked(vars, lines, AskList::new(alloc), row),
     }
 }
 
@@ -147,9 +165,7 @@ fn continued(
     last: OpenLine,
     row: &Row,
 ) -> Result<Stage, AllocError>
-    requires allowed { Contains
-        (words_at InitialLines (place_after (rows_of (Body vars lines last)))) row.now.keyword }
-    requires fills { FillsSlots (variables_of (rows_of (Body vars lines last))) row.now }
+    requires { CanFollow (rows_of (Body vars lines last)) row.now }
     ensures { IfOk result (λ next. rows_of next ≡ row.now ∷ rows_of (Body vars lines last)) }
 {
     match row.keyword {
@@ -164,8 +180,26 @@ fn continued(
         }
         _ => {
             let lines = with_line(lines, last.row)?;
-            Ok(Stage::Whole { vars, lines })
+            asked(vars, lines, AskList::new(alloc), row)
         }
+    }
+}
+
+/// The stage after a row that follows all lines: an ask, `settle` or the end.
+fn asked(vars: i64, lines: Vec<LineRow>, asks: AskList, row: &Row) -> Result<Stage, AllocError>
+    requires { CanEnd (asks_rows vars lines.items asks) row.now }
+    ensures { IfOk result (λ next. rows_of next ≡ row.now ∷ asks_rows vars lines.items asks) }
+{
+    match row.keyword {
+        Keyword::Ask => {
+            let asks = asks.with_ask(row.ask())?;
+            Ok(Stage::Asking { vars, lines, asks })
+        }
+        Keyword::Settle => {
+            let asks = asks.with_settle();
+            Ok(Stage::Asking { vars, lines, asks })
+        }
+        _ => Ok(Stage::Whole { vars, lines, asks }),
     }
 }
 
@@ -210,4 +244,21 @@ fn is_zero(powers: &[i64]) -> bool
     ensures { IsTrue result ↔ All (λ a. a ≡ pos 0) powers.now }
 {
     powers.iter().all(|a| *a == 0)
+}
+
+/// Whether the rules on values hold of an ask.
+fn is_ask(ask: &AskRow) -> bool
+    ensures { IsTrue result ↔ HasAskValues ask.now }
+{
+    ask.reader >= 1 && is_order(ask.least)
+}
+
+/// Whether a least order, if there is one, isn't negative.
+fn is_order(least: Option<i64>) -> bool
+    ensures { IsTrue result ↔ ForSome least (λ order. pos 0 ≤ℤ order) }
+{
+    match least {
+        Some(order) => order >= 0,
+        None => true,
+    }
 }

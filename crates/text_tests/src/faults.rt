@@ -1,9 +1,10 @@
 //! Which fault a text has, and how faults are shown.
 
-use scatter_text::{TextFault, TextKind, one_outcome, read_text};
+use scatter_text::{TextFault, TextKind, TextMode, one_outcome, read_text};
 use std::alloc::{AllocError, Global};
 use std::test::Fail;
 
+// In both modes.
 const FAULTS: [(&[u8], u32, TextKind); 22] = [
     (b"", 1, TextKind::Missing),
     (b"scatter 1\nvars 1\n", 3, TextKind::Missing),
@@ -45,11 +46,12 @@ const FAULTS: [(&[u8], u32, TextKind); 22] = [
     ),
 ];
 
-fn has_fault(alloc: Global, text: &[u8], line: u32, kind: TextKind) -> bool {
+/// Whether a text has this fault in a mode.
+pub fn has_fault(alloc: Global, text: &[u8], mode: TextMode, line: u32, kind: TextKind) -> bool {
     if text.len() > 1048576 {
         return false;
     }
-    match read_text(alloc, text) {
+    match read_text(alloc, text, mode) {
         Err(TextFault::Bad { line: at, kind: is }) => at == line && is == kind,
         _ => false,
     }
@@ -59,7 +61,8 @@ fn has_fault(alloc: Global, text: &[u8], line: u32, kind: TextKind) -> bool {
 fn faults(rt: HostRuntime) -> Result<(), Fail> {
     one_outcome();
     for (text, line, kind) in &FAULTS {
-        assert!(rt; has_fault(rt.alloc(), text, *line, *kind));
+        assert!(rt; has_fault(rt.alloc(), text, TextMode::Lines, *line, *kind));
+        assert!(rt; has_fault(rt.alloc(), text, TextMode::Asks, *line, *kind));
     }
     Ok(())
 }

@@ -1,7 +1,11 @@
-//! Tests of scatter_text at its public calls: worked texts with their faults, values, limits, lines and diagrams, taken
+//! Tests of scatter_text at its public calls: worked texts with their faults, values, asks, limits, lines and diagrams, taken
 //! from outside.
 #![tactic(auto)]
 
+#[cfg(test)]
+mod ask_limits;
+#[cfg(test)]
+mod asks;
 #[cfg(test)]
 mod diagrams;
 #[cfg(test)]

@@ -11,7 +11,7 @@ use trunc_series::{Exp, Key};
 /// The lines that a text says, if it is read and passes no limit.
 pub fn initial(alloc: Global, text: &[u8]) -> Option<Initial> {
     match file_of(alloc, text) {
-        Some(file) => match check_limits(&file, 24) {
+        Some(file) => match check_limits(&file, 24, 1) {
             None => initial_of(alloc, &file).ok(),
             Some(_) => None,
         },

@@ -7,7 +7,7 @@ use std::test::Fail;
 
 fn passes(alloc: Global, text: &[u8], order: u32, which: Option<LimitKind>) -> bool {
     match file_of(alloc, text) {
-        Some(file) => check_limits(&file, order) == which,
+        Some(file) => check_limits(&file, order, 1) == which,
         None => false,
     }
 }
@@ -107,7 +107,7 @@ fn counted_terms(rt: HostRuntime) -> Result<(), Fail> {
     Ok(())
 }
 
-const WORDS: [(LimitKind, &str); 9] = [
+const WORDS: [(LimitKind, &str); 13] = [
     (LimitKind::Bytes, "bytes"),
     (LimitKind::Vars, "vars"),
     (LimitKind::Size, "size"),
@@ -117,6 +117,10 @@ const WORDS: [(LimitKind, &str); 9] = [
     (LimitKind::Exponent, "exponent"),
     (LimitKind::Power, "power"),
     (LimitKind::Place, "point"),
+    (LimitKind::Queries, "queries"),
+    (LimitKind::AskExponent, "ask-exponent"),
+    (LimitKind::Reader, "reader"),
+    (LimitKind::Least, "least"),
 ];
 
 #[test]

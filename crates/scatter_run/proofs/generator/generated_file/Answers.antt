@@ -1,9 +1,10 @@
 -- One line more, and then all, which are those of a file within the limits.
 use Rattle.std.proofs.Common.{◌∙◌, refl, sym, subst, arith, List}
-use Rattle.std.specs.Prelude.{pos}
+use Rattle.std.specs.Prelude.{pos, All}
 use Rattle.std.proofs.lemmas.Int.{ints}
+use Rattle.std.proofs.lemmas.List.Elements.{All-nil}
 use Rattle.scatter_text.specs.declared.file.LineRow.{LineRow}
-use Rattle.scatter_text.specs.Values.{AreLineRows}
+use Rattle.scatter_text.specs.Values.{AreLineRows, IsAsk}
 use Rattle.scatter_run.proofs.GeneratedFile.{lines-more, lines-all, valid-lines, within}
 use Rattle.scatter_run.proofs.generator.generated_file.Goals as goal
 
@@ -21,6 +22,8 @@ invariant_of-result c = record {
       subst (λ (rows : List LineRow). AreLineRows (pos 6) rows)
       (sym (lines-all c.args.number c.loop-variable.variable c.from_vec.result c.loop-variable.lines.items c.from_vec.ensures c.loop-variable.invariant.0 c.loop-variable-test.false))
       (valid-lines c.args.number);
+  valid_asks = subst (All IsAsk) (sym c.new.ensures) (All-nil IsAsk);
+  settled = λ n e. absurd (cc);
 }
 
 pub returns-clause-lines : goal.returns-clause-lines

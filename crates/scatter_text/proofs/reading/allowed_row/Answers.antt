@@ -1,7 +1,6 @@
 use Rattle.std.proofs.Common.{rules, ◌≡◌, ◌∙◌, ap, Err}
 use Rattle.std.proofs.lemmas.Bool.Decides.{not_from_Decides}
 use Rattle.scatter_text.specs.declared.fault.TextKind.TheVariants.{Value}
-use Rattle.scatter_text.specs.declared.grammar.TextForm.TheVariants.{InitialLines}
 use Rattle.scatter_text.specs.Stages.{rows_of}
 use Rattle.scatter_text.proofs.RowTexts.{bad_value, passed_on}
 use Rattle.scatter_text.proofs.reading.allowed_row.Goals as goal
@@ -13,7 +12,7 @@ returns-in_err-row-clause-bad c = λ kind is.
 pub returns-then-not-branch-clause-bad : goal.returns-then-not-branch-clause-bad
 returns-then-not-branch-clause-bad c = λ kind is.
     let value : kind ≡ Value = cc in
-    bad_value InitialLines (rows_of c.args.stage.now) c.args.line.now c.in_ok-row.row kind
+    bad_value c.args.mode (rows_of c.args.stage.now) c.args.line.now c.in_ok-row.row kind
     (c.in_ok-row.ensures.ok (rows_of c.args.stage.now) c.place.ensures c.variables.ensures)
     (not_from_Decides c.in_ok-allows.field-0 c.in_ok-allows.ensures c.if-not-branch.true) value
 

@@ -14,8 +14,9 @@ invariant_of-result c =
     let fits : FitsSigned w64 c.in-Whole.vars = search rules in
     let P : Stage → Type 0 = λ s. AreRead (rows_of s) in
     let read = subst P c.in-Whole.is c.requires in
-    let file = file_from_good read.0 c.in-Whole.vars c.in-Whole.lines.items read.1 in
-    record { variables = rw to_z-of_z file.variables; valid = rw (to_z-of_z, c.from_vec.ensures) file.valid }
+    let list = c.in-Whole.asks in
+    let file = file_from_good read.0 read.1 c.in-Whole.vars c.in-Whole.lines.items list.asks.items list.settle read.2 in
+    record { variables = rw to_z-of_z file.variables; valid = rw (to_z-of_z, c.from_vec.ensures) file.valid; valid_asks = rw c.from_vec-in-Whole.ensures file.valid_asks; settled = rw c.from_vec-in-Whole.ensures list.settled }
 
 pub returns : goal.returns
 returns c = record {

@@ -1,14 +1,12 @@
-use Rattle.std.proofs.Common.{rules, FitsSigned, fold, subst, Contains}
+use Rattle.std.proofs.Common.{rules, FitsSigned, ◌∷◌, List, subst, sym, ◌∙◌, ap}
 use Rattle.std.specs.Int.{w64}
 use Rattle.std.proofs.lemmas.Int.{to_z-of_z}
-use Rattle.scatter_text.specs.declared.grammar.Place.{Place}
-use Rattle.scatter_text.specs.declared.grammar.TextForm.TheVariants.{InitialLines}
+use Rattle.std.proofs.lemmas.Result.{IfOk-weaker}
+use Rattle.scatter_text.specs.declared.row.Row.{Row}
 use Rattle.scatter_text.specs.declared.stage.Stage.TheVariants.{Body}
-use Rattle.scatter_text.specs.Grammar.{variables_of, words_at, rows_onto}
-use Rattle.scatter_text.specs.Stages.{rows_of, head_rows}
-use Rattle.scatter_text.proofs.StageRows.{place_after-line}
-use Rattle.scatter_text.proofs.RowShapes.{end-of-terms}
-use Rattle.scatter_text.proofs.AddedRows.{line-more, term-more, end-more}
+use Rattle.scatter_text.specs.Grammar.{variables_of, lines_rows}
+use Rattle.scatter_text.specs.Stages.{rows_of, CanEnd}
+use Rattle.scatter_text.proofs.AddedRows.{line-more, term-more, end-of-body, rows-of-body}
 use Rattle.scatter_text.proofs.stage.continued.Goals as goal
 
 pub returns-in_ok-lines-in-Line : goal.returns-in_ok-lines-in-Line
@@ -23,10 +21,17 @@ returns-in_ok-last-in-Term c =
     rw to_z-of_z
     (term-more (variables_of (rows_of (Body c.args.vars c.args.lines c.args.last))) c.args.vars c.args.lines.items c.args.last.row c.in_ok-last-in-Term.last.row c.in_ok-term-in-Term.field-0 c.args.row.now c.in_ok-last-in-Term.ensures c.in_ok-term-in-Term.ensures c.in-Term.is c.requires.fills)
 
+pub asked-requires : goal.asked-requires
+asked-requires c =
+    let vars : FitsSigned w64 c.args.vars = search rules in
+    let P : List Row → Type 0 = λ rows. CanEnd rows c.args.row.now in
+    let list = c.new.result in
+    let body = rows-of-body c.args.vars c.args.lines.items c.in_ok-lines-in_default.lines.items c.args.last.row list.asks.items list.settle c.in_ok-lines-in_default.ensures c.new.ensures.asks c.new.ensures.settle in
+    rw to_z-of_z (subst P (sym body) (end-of-body (lines_rows c.args.vars c.args.lines.items) c.args.last.row c.args.row.now c.requires c.in_default.not-Line c.in_default.not-Term))
+
 pub returns-in_ok-lines-in_default : goal.returns-in_ok-lines-in_default
 returns-in_ok-lines-in_default c =
     let vars : FitsSigned w64 c.args.vars = search rules in
-    let P : Place → Type 0 = λ p. Contains (words_at InitialLines p) c.args.row.now.keyword in
-    let ends = end-of-terms c.args.row.now.keyword (subst P (place_after-line (fold rows_onto (head_rows c.args.vars) c.args.lines.items) c.args.last.row) c.requires.allowed) c.in_default.not-Line c.in_default.not-Term in
-    rw to_z-of_z
-    (end-more (variables_of (rows_of (Body c.args.vars c.args.lines c.args.last))) c.args.vars c.args.lines.items c.in_ok-lines-in_default.lines.items c.args.last.row c.args.row.now c.in_ok-lines-in_default.ensures ends c.requires.fills)
+    let list = c.new.result in
+    let body = rows-of-body c.args.vars c.args.lines.items c.in_ok-lines-in_default.lines.items c.args.last.row list.asks.items list.settle c.in_ok-lines-in_default.ensures c.new.ensures.asks c.new.ensures.settle in
+    IfOk-weaker c.asked.result _ _ (λ next h. h ∙ ap (λ rows. c.args.row.now ∷ rows) body) (rw to_z-of_z at c.asked.ensures)
