@@ -110,7 +110,7 @@ fn exponents_have_their_least_degree(rt: HostRuntime) -> Result<(), Fail> {
 }
 
 // The lines through the origin along the axes, one each way, with t1 at the multiples 1, 4 and 64.
-fn four_lines(alloc: Global) -> Result<Vec<Wall>, Fail>
+pub(crate) fn four_lines(alloc: Global) -> Result<Vec<Wall>, Fail>
     ensures { IfOk result (λ ws. AreLines highest_order ws.items) }
 {
     let order = HIGHEST_ORDER;

@@ -1,3 +1,12 @@
 pub mod Growths
 pub mod Levels
 pub mod ReachList
+pub mod TailOrder
+pub mod Pushes
+pub mod OneMoreBend
+pub mod WithinReach
+pub mod TracedSteps
+pub mod TracedRoots
+pub mod TracedEnd
+pub mod TracedFaults
+pub mod TracedAnswers

@@ -23,7 +23,7 @@ use Rattle.broken_lines.proofs.Growths.{exact-exp, equal-itself, known-key}
 
 -- ---- entries and values
 
-key-of : (es : List (CodeExp × ℕ)) (x : CodeExp) (n : ℕ) → In (x, n) es → In x (keys_of es)
+pub key-of : (es : List (CodeExp × ℕ)) (x : CodeExp) (n : ℕ) → In (x, n) es → In x (keys_of es)
 key-of [] x n i = absurd i
 key-of (e ∷ es) x n (inl q) = inl (ap (λ (f : CodeExp × ℕ). f.0) q)
 key-of (e ∷ es) x n (inr i) = inr (key-of es x n i)
@@ -33,7 +33,7 @@ less-at x y [] h i = absurd i
 less-at x y (z ∷ ys) h (inl e) = ap (exp_cmp x) e ∙ h.0
 less-at x y (z ∷ ys) h (inr i) = less-at x y ys h.1 i
 
-entry-value : (es : List (CodeExp × ℕ)) (x : CodeExp) (n : ℕ) → IsStrictlySortedBy exp_cmp (keys_of es) → In (x, n) es → lookup (is_at (exp_cmp x)) es ≡ Some n
+pub entry-value : (es : List (CodeExp × ℕ)) (x : CodeExp) (n : ℕ) → IsStrictlySortedBy exp_cmp (keys_of es) → In (x, n) es → lookup (is_at (exp_cmp x)) es ≡ Some n
 unfolding IsStrictlySortedBy
 entry-value [] x n s i = absurd i
 entry-value (e ∷ es) x n s i = go (is_at (exp_cmp x) e.0) refl i (entry-value es x n s.1)

@@ -1,2 +1,4 @@
 pub mod Growth
 pub mod Reached
+pub mod Traced
+pub mod Tracing

@@ -155,7 +155,7 @@ impl Growth {
 }
 
 /// x + y
-fn sum(x: Exp, y: Exp) -> Exp
+pub(crate) fn sum(x: Exp, y: Exp) -> Exp
     requires first { IsSummable x }
     requires second { IsSummable y }
     ensures { exp_of result ≡ exp_add (exp_of x) (exp_of y) }

@@ -4,9 +4,16 @@
 //! faults of asking are this program's own.
 #![tactic(auto)]
 
+mod asking;
 mod fault;
 mod growth;
+mod node;
 mod reaching;
+mod tail;
+mod tracer;
 
+pub use asking::tails;
+pub use bend_finder::Bend;
 pub use fault::AskFault;
 pub use reaching::reach;
+pub use tail::{Tail, Traced};

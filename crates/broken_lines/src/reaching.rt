@@ -18,7 +18,11 @@ use trunc_series::Exp;
 /// An exponent of reach n is one of lower reach and a step, or the exponent of a term of degree n; this is a
 /// step where no lower terms sum to it. So each degree is found from those below, and no list of terms is
 /// formed.
-fn reach_map(alloc: Global, e: &Diagram, limit: u32) -> Result<BTreeMap<Exp, u32>, AskFault>
+pub(crate) fn reach_map(
+    alloc: Global,
+    e: &Diagram,
+    limit: u32,
+) -> Result<BTreeMap<Exp, u32>, AskFault>
     requires { limit ≤ e.now.order }
     ensures reach { IfOk result (λ m. IsReachMap limit (walls e.now.diagram) m) }
     ensures fault { IfErr result (IsReachFault limit (walls e.now.diagram)) }

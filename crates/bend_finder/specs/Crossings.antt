@@ -1,0 +1,56 @@
+-- Where a stretch from p along e crosses walls that aren't parallel to it.
+--     Crosses p e w q             it crosses w at q
+--     IsCrossing p e w c          c tells where it crosses w
+--     AreCrossings ls p e ps told      ps are its near crossings of the walls ls; told tells whether there are others
+--     AreCandidates ws p e ps told     likewise, with the points of walls on the stretch, sorted
+use Rattle.std.specs.Prelude.{◌≡◌, ◌≢◌, Bool, IsTrue, IsFalse, List, pos}
+use Rattle.scattering.specs.Collections.{In, EveryPair}
+use Rattle.scattering.specs.Series.{Exp, det}
+use Rattle.scattering.specs.Plane.{Point, IsPoint, IsNear, Beyond, point_before}
+use Rattle.scattering.specs.Wall.{Wall, is_on}
+use Rattle.plane_geom.specs.Shown.{point_of}
+use Rattle.plane_geom.specs.declared.Point.{Point as CodePoint}
+use Rattle.scatter_diagram.specs.declared.wall.Wall.{Wall as CodeWall}
+use Rattle.scatter_diagram.specs.Shown.{walls_of}
+use Rattle.joint_finder.specs.Joints.{points_of}
+use Rattle.joint_finder.specs.Strands.{OfSome}
+use Rattle.bend_finder.specs.declared.crossings.Crossing.{Crossing}
+use Rattle.bend_finder.specs.declared.crossings.Crossing.TheVariants.{Missed, TooFar, At}
+
+abbrev pub Crosses : Point → Exp → Wall → Point → Type 0
+Crosses p e w q = IsPoint q × Beyond p e q × IsTrue (is_on w q) × (det w.dir e ≢ pos 0)
+
+abbrev pub CrossesSome : List Wall → Point → Exp → Point → Type 0
+CrossesSome ls p e q = (w : Wall) × In w ls × Crosses p e w q
+
+abbrev pub IsCrossing : Point → Exp → Wall → Crossing → Type 0
+IsCrossing p e w Missed = (q : Point) → Crosses p e w q → ⊥
+IsCrossing p e w TooFar = (q : Point) × Crosses p e w q × (IsNear q → ⊥)
+IsCrossing p e w (At r) = Crosses p e w (point_of r)
+
+-- q, unless it is p
+abbrev pub IsUnless : Point → CodePoint → Crossing → Type 0
+IsUnless p q Missed = point_of q ≡ p
+IsUnless p q TooFar = ⊥
+IsUnless p q (At r) = (r ≡ q) × (point_of q ≢ p)
+
+pub record AreCrossings (ls : List Wall) (p : Point) (e : Exp) (ps : List CodePoint) (told : Bool) : Type 0 where
+  pub each : (q : Point) → In q (points_of ps) → CrossesSome ls p e q
+  pub all : (q : Point) → CrossesSome ls p e q → IsNear q → In q (points_of ps)
+  pub far : IsTrue told → (q : Point) × CrossesSome ls p e q × (IsNear q → ⊥)
+  pub near : IsFalse told → (q : Point) → CrossesSome ls p e q → IsNear q
+
+-- the point of a wall lies on the stretch
+abbrev pub IsStartOf : Point → Exp → CodeWall → Point → Type 0
+IsStartOf p e w q = (q ≡ point_of w.at) × Beyond p e q
+
+abbrev pub IsStartAhead : List CodeWall → Point → Exp → Point → Type 0
+IsStartAhead ws p e q = OfSome (IsStartOf p e) ws q
+
+pub record AreCandidates (ws : List CodeWall) (p : Point) (e : Exp) (ps : List CodePoint) (told : Bool) : Type 0 where
+  pub sorted : EveryPair (λ q r. IsTrue (point_before q r)) (points_of ps)
+  pub each : (q : Point) → In q (points_of ps) → IsPoint q × Beyond p e q
+  pub crossings : (q : Point) → CrossesSome (walls_of ws) p e q → IsNear q → In q (points_of ps)
+  pub starts : (q : Point) → IsPoint q → IsStartAhead ws p e q → In q (points_of ps)
+  pub far : IsTrue told → (q : Point) × CrossesSome (walls_of ws) p e q × (IsNear q → ⊥)
+  pub near : IsFalse told → (q : Point) → CrossesSome (walls_of ws) p e q → IsNear q

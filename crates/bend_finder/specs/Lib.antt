@@ -1,0 +1,6 @@
+pub mod Ahead
+pub mod Live
+pub mod Crossings
+pub mod Special
+pub mod Powers
+pub mod Bends

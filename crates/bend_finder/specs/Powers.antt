@@ -1,0 +1,22 @@
+-- Powers at a point.
+use Rattle.std.specs.Prelude.{ℕ, ◌≤◌, List, ◌∷◌, map}
+use Rattle.scattering.specs.Collections.{Every}
+use Rattle.scattering.specs.Series.{Sum, absolute}
+use Rattle.scattering.specs.Plane.{Point}
+use Rattle.scattering.specs.Wall.{Wall}
+use Rattle.scattering.specs.BrokenLine.{live_on, product}
+use Rattle.trunc_series.specs.Shown.{Seen}
+use Rattle.trunc_series.specs.Capped.{IsMajorantOf}
+use Rattle.scatter_diagram.specs.declared.wall.Wall.{Wall as CodeWall}
+
+-- the functions are of order n at least
+abbrev pub AreAtLeast : ℕ → List CodeWall → Type 0
+AreAtLeast n ws = Every (λ w. n ≤ w.function.order) ws
+
+-- |f| for the functions of the live walls on q
+abbrev pub functions_on : List Wall → Point → List Sum
+functions_on ls q = map (λ w. absolute w.function) (live_on ls q)
+
+-- m has one wall more than the product p of the functions of others
+abbrev pub IsMultiplied : ℕ → Wall → Point → Seen → Seen → Type 0
+IsMultiplied n w q p m = (ls : List Wall) → IsMajorantOf p n (product n (functions_on ls q)) → IsMajorantOf m n (product n (functions_on (w ∷ ls) q))
