@@ -1,12 +1,10 @@
 -- The values of bends and tails are at most their weights.
-use Rattle.std.proofs.Common.{◌≡◌, ℕ, sym, ap, subst, ◌+◌, ◌*◌, ◌≤◌, inl, inr, arith, List, [], ◌∷◌, map, true}
-use Rattle.std.specs.Prelude.{ℤ, pos, ◌*ℤ◌, ◌≤ℤ◌, nat_abs, IsTrue}
-use Rattle.std.proofs.lemmas.Int.{ints}
-use Rattle.scattering.specs.Collections.{Every, In}
-use Rattle.scattering.specs.Series.{Exp, Key, Sum, exp_eq, exp_sub, coef, absolute, degree, mul, pow, one, mass_to}
+use Rattle.std.proofs.Common.{◌≡◌, ℕ, sym, subst, ◌+◌, ◌*◌, ◌≤◌, arith, List, [], ◌∷◌, map}
+use Rattle.std.specs.Prelude.{ℤ, ◌*ℤ◌, nat_abs}
+use Rattle.scattering.specs.Series.{Exp, Key, exp_sub, coef, absolute, degree, one, mass_to}
 use Rattle.scattering.specs.Plane.{Point}
 use Rattle.scattering.specs.Wall.{Wall, cut_walls}
-use Rattle.scattering.specs.BrokenLine.{Bend, degrees, live_on, product, across, bend_series, bend_majorant}
+use Rattle.scattering.specs.BrokenLine.{Bend, live_on, product, across, bend_series, bend_majorant}
 use Rattle.scattering.specs.Tail.{IsTraced, tail_weight}
 use Rattle.weight_theory.specs.Laws.{IsBelow}
 use Rattle.weight_theory.proofs.Readings.{Bounds, from_Bounds}
@@ -33,7 +31,7 @@ value-light n ws p x k l =
     below : (k : Key) → degree k ≤ degree k
     below k = omega arith
 
-abs-mul : (x y : ℤ) → nat_abs (x *ℤ y) ≡ nat_abs x * nat_abs y
+pub abs-mul : (x y : ℤ) → nat_abs (x *ℤ y) ≡ nat_abs x * nat_abs y
 abs-mul x y = grind arith
 
 -- so the value of a tail is at most its weight

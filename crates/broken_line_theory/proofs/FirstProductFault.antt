@@ -8,9 +8,9 @@ use Rattle.scattering.specs.Collections.{In, Every, IsLeast}
 use Rattle.scattering.specs.Series.{Exp, Key, Sum, Term, origin, exp_eq, exp_before, key_eq, degree, coef, minus, mul, IsSeries}
 use Rattle.scattering.specs.Plane.{Point, IsPoint}
 use Rattle.scattering.specs.Wall.{Wall, IsWall}
-use Rattle.scattering.specs.Theta.{AskFault, WeightTooLarge, IsAskFault, IsWeight, weights}
-use Rattle.scattering.specs.ThetaProduct.{BeginsAt, combined, AreThetas, IsThetaProduct, IsThetaWeight, of_degree, weight_of, IsNext, AreWeights, BeginWithoutFault, BeginWithFault, IsTooHeavy, Runs, begins, goes, FailsAt, StepsFault, IsProductFault, IsFamily}
-use Rattle.scattering.proofs.Lists.{Every-at, Every-filter, Every-append, Every-implies}
+use Rattle.scattering.specs.Theta.{AskFault, WeightTooLarge, IsAskFault, weights}
+use Rattle.scattering.specs.ThetaProduct.{BeginsAt, combined, IsThetaProduct, IsThetaWeight, of_degree, weight_of, IsNext, AreWeights, BeginWithoutFault, BeginWithFault, Runs, begins, goes, FailsAt, StepsFault, IsProductFault, IsFamily}
+use Rattle.scattering.proofs.Lists.{Every-at, Every-filter, Every-append}
 use Rattle.scattering.proofs.Keys.{key_eq-same}
 use Rattle.scattering.proofs.KeyOrder.{exp_before-trans}
 use Rattle.scattering.proofs.Pairing.{coef-append}
@@ -34,7 +34,7 @@ use Rattle.broken_line_theory.specs.Laws.{ProductFaultExists, FamilyExists}
 -- ---- terms by their degree
 
 -- the coefficients of the terms whose keys pass a test
-coef-where : (b : Key → Bool) (f : Sum) (x : Key) → coef (filter (λ t. b t.0) f) x ≡ cond (b x) (coef f x) (pos 0)
+pub coef-where : (b : Key → Bool) (f : Sum) (x : Key) → coef (filter (λ t. b t.0) f) x ≡ cond (b x) (coef f x) (pos 0)
 coef-where b [] x = none (b x)
   where
     none : (d : Bool) → pos 0 ≡ cond d (pos 0) (pos 0)
@@ -122,7 +122,7 @@ module _ (ws : List Wall) (k j : ℕ) (q : Point) (walls : Every (IsWall j) ws) 
             let m = Every-at (λ t. degree t.0 ≤ k) b t.0 series.low t.1 in absurd (omega (arith, l, m)),
       )
 
-  weights-exist : (b : Sum) → IsSeries k b → (w : Exp → ℕ) × AreWeights ws k q b w
+  pub weights-exist : (b : Sum) → IsSeries k b → (w : Exp → ℕ) × AreWeights ws k q b w
   weights-exist b series = (λ r. (weight-chosen b series r).0, λ r i h. (weight-chosen b series r).1 i h)
 
   -- ---- the thetas that begin at a step

@@ -52,7 +52,7 @@ module _ (ws : List Wall) (n k : ℕ) (m : Exp) (q : Point) (walls : Every (IsWa
   abbrev values : List Tail → Sum
   values ts = map (value ws n m) (map forwards (filter (is_complete m) ts))
 
-  values-append : (ts us : List Tail) → values (ts ++ us) ≡ values ts ++ values us
+  pub values-append : (ts us : List Tail) → values (ts ++ us) ≡ values ts ++ values us
   values-append ts us =
       ap (λ vs. map (value ws n m) (map forwards vs)) (filter-append (is_complete m) ts us)
       ∙ ap (map (value ws n m)) (map-append forwards (filter (is_complete m) ts) (filter (is_complete m) us))

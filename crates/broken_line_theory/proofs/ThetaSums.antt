@@ -1,13 +1,13 @@
 -- The theta as a sum over tails: no coefficient exceeds the weight of all tails, and no degree the limit.
-use Rattle.std.proofs.Common.{◌≡◌, ◌≢◌, ℕ, refl, sym, ap, subst, ◌∙◌, ◌+◌, ◌≤◌, arith, Bool, true, false, List, [], ◌∷◌, map}
-use Rattle.std.specs.Prelude.{ℤ, pos, ◌+ℤ◌, nat_abs, filter, reverse, cond}
+use Rattle.std.proofs.Common.{◌≡◌, ℕ, refl, sym, ap, subst, ◌∙◌, ◌+◌, ◌≤◌, arith, Bool, true, false, List, [], ◌∷◌, map}
+use Rattle.std.specs.Prelude.{ℤ, ◌+ℤ◌, nat_abs, filter}
 use Rattle.std.proofs.lemmas.Int.{ints}
 use Rattle.scattering.specs.Collections.{Every}
-use Rattle.scattering.specs.Series.{Exp, Key, Powers, Sum, Term, exp_sub, key_eq, coef, degree, total, powers_add}
+use Rattle.scattering.specs.Series.{Exp, Key, Sum, Term, exp_sub, key_eq, coef, degree, total}
 use Rattle.scattering.specs.Plane.{Point}
 use Rattle.scattering.specs.Wall.{Wall, IsWall}
 use Rattle.scattering.specs.BrokenLine.{Bend, degrees, value}
-use Rattle.scattering.specs.Tail.{IsTraced, Tail, IsTail, last, is_complete, tail_weight}
+use Rattle.scattering.specs.Tail.{Tail, IsTail, last, is_complete, tail_weight}
 use Rattle.scattering.specs.Theta.{weights}
 use Rattle.scattering.proofs.Keys.{exp_eq-same}
 use Rattle.broken_line_theory.specs.TailValue.{tail_value}
@@ -22,7 +22,7 @@ abs-sum : (x y : ℤ) (a b : ℕ) → nat_abs x ≤ a → nat_abs y ≤ b → na
 abs-sum x y a b h k = omega (arith, ints, h, k)
 
 -- the degree of a tail's value is that of its bends
-value-degree : (ws : List Wall) (n : ℕ) (x : Exp) (cs : List Bend) → total (tail_value ws n x cs).0 ≡ degrees cs
+pub value-degree : (ws : List Wall) (n : ℕ) (x : Exp) (cs : List Bend) → total (tail_value ws n x cs).0 ≡ degrees cs
 value-degree ws n x [] = refl
 value-degree ws n x (c ∷ cs) =
     total-add c.key.powers (tail_value ws n (exp_sub x c.key.exp) cs).0 ∙ ap (λ k. degree c.key + k) (value-degree ws n (exp_sub x c.key.exp) cs)
@@ -43,7 +43,7 @@ module _ (ws : List Wall) (n k : ℕ) (m : Exp) (q : Point) (walls : Every (IsWa
       let v = value-degree ws n t.root t.bends in
       omega (arith, u, d, v)
 
-  value-small : (t : Tail) → IsTail ws n m q t → is_complete m t ≡ true → nat_abs (line_value t).1 ≤ tail_weight ws n t.root t.bends
+  pub value-small : (t : Tail) → IsTail ws n m q t → is_complete m t ≡ true → nat_abs (line_value t).1 ≤ tail_weight ws n t.root t.bends
   value-small t h e =
       subst (λ (s : Term). nat_abs s.1 ≤ tail_weight ws n t.root t.bends) (sym (line-value t h e)) (tail-light ws n m q t.root 0 t.bends h.traced)
 

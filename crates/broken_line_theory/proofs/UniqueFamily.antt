@@ -90,7 +90,7 @@ reading k thetas y x = coef (moved k (only x) (pos 1) (thetas x.exp)) y
 plus-zero : (c d e r : ℤ) → d ≡ r → (c *ℤ e +ℤ pos 0) +ℤ d ≡ c *ℤ e +ℤ r
 plus-zero c d e r h = rw h (omega (arith, ints))
 
-coef-combined : (k : ℕ) (thetas : Exp → Sum) (a : Sum) (y : Key) → coef (combined k thetas a) y ≡ pairing (reading k thetas y) a
+pub coef-combined : (k : ℕ) (thetas : Exp → Sum) (a : Sum) (y : Key) → coef (combined k thetas a) y ≡ pairing (reading k thetas y) a
 coef-combined k thetas [] y = refl
 coef-combined k thetas (t ∷ a) y =
     coef-append (mul k ((only t.0, t.1) ∷ []) (thetas t.0.exp)) (combined k thetas a) y

@@ -27,7 +27,7 @@ some-inject x y e = cc
 module _ (ws : List Wall) (k j : ℕ) (q : Point) (walls : Every (IsWall j) ws) (point : IsPoint q) where
   -- ---- weights
 
-  theta-weight-unique : (n : ℕ) (m : Exp) (v w : ℕ) → IsThetaWeight ws n m q v → IsThetaWeight ws n m q w → v ≡ w
+  pub theta-weight-unique : (n : ℕ) (m : Exp) (v w : ℕ) → IsThetaWeight ws n m q v → IsThetaWeight ws n m q w → v ≡ w
   theta-weight-unique n m v w h i = go (exp_eq m origin) refl
     where
       go : (b : Bool) → exp_eq m origin ≡ b → v ≡ w

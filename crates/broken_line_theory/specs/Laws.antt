@@ -1,13 +1,13 @@
 -- What is proved here of broken lines, thetas and their products.
-use Rattle.std.specs.Prelude.{◌≡◌, ℕ, ◌+◌, ◌≤◌, ◌≢◌, ◌↔◌, List, map, filter, reverse, Option, None, pos, nat_abs}
+use Rattle.std.specs.Prelude.{◌≡◌, ℕ, ◌+◌, ◌*◌, ◌≤◌, ◌≢◌, ◌↔◌, List, ◌++◌, map, filter, reverse, Option, None, pos, ◌-ℤ◌, nat_abs}
 use Rattle.scattering.specs.Collections.{Every, Lists}
-use Rattle.scattering.specs.Series.{Exp, Key, Sum, Same, origin, coef, degree}
+use Rattle.scattering.specs.Series.{Exp, Key, Term, Sum, Same, origin, coef, degree, minus}
 use Rattle.scattering.specs.Plane.{Point, IsPoint}
-use Rattle.scattering.specs.Wall.{Wall, IsWall}
+use Rattle.scattering.specs.Wall.{Wall, IsWall, cut_walls}
 use Rattle.scattering.specs.BrokenLine.{Bend, IsBrokenLine, value}
-use Rattle.scattering.specs.Tail.{Tail, IsTail, IsComplete, is_complete, backwards}
+use Rattle.scattering.specs.Tail.{IsWallTerm, Tail, IsTail, IsComplete, is_complete, backwards}
 use Rattle.scattering.specs.Theta.{AskFault, IsAskFault, IsTheta, IsWeight}
-use Rattle.scattering.specs.ThetaProduct.{IsThetaProduct, IsFamily, Runs, IsProductFault}
+use Rattle.scattering.specs.ThetaProduct.{AreThetas, combined, IsThetaProduct, IsThetaWeight, IsFamily, Runs, IsProductFault}
 
 -- where nothing fails, the broken lines are the complete tails
 abbrev pub LinesAreTails : Type 0
@@ -47,6 +47,13 @@ abbrev pub ThetaIsLight : Type 0
 ThetaIsLight = (ws : List Wall) (n k : ℕ) (m : Exp) (q : Point) (s : Sum) (w : ℕ) → Every (IsWall k) ws → IsPoint q → IsAskFault ws n m q None → m ≢ origin
     → IsTheta ws n m q s → IsWeight ws n m q w → (x : Key) → (nat_abs (coef s x) ≤ w) × (coef s x ≢ pos 0 → degree x ≤ n)
 
+-- no number of an exponent of the theta is farther from the one that was asked for than c for each degree, where
+-- none of a wall's terms is farther from 0
+abbrev pub ThetaStaysNear : Type 0
+ThetaStaysNear = (ws : List Wall) (n k c : ℕ) (m : Exp) (q : Point) (s : Sum) → Every (IsWall k) ws → IsPoint q
+    → ((t : Term) → IsWallTerm (cut_walls n ws) t → (nat_abs t.0.exp.a ≤ c * degree t.0) × (nat_abs t.0.exp.b ≤ c * degree t.0))
+    → IsAskFault ws n m q None → IsTheta ws n m q s → (x : Key) → coef s x ≢ pos 0 → (nat_abs (x.exp.a -ℤ m.a) ≤ c * degree x) × (nat_abs (x.exp.b -ℤ m.b) ≤ c * degree x)
+
 -- and it is one
 abbrev pub ThetaIsUnique : Type 0
 ThetaIsUnique = (ws : List Wall) (n : ℕ) (m : Exp) (q : Point) (s t : Sum) → IsTheta ws n m q s → IsTheta ws n m q t → Same s t
@@ -62,6 +69,12 @@ FamilyIsUnique = (ws : List Wall) (n k : ℕ) (l r : Exp) (q : Point) (a b : Sum
 -- steps that end without a fault end with it
 abbrev pub StepsEndWithFamily : Type 0
 StepsEndWithFamily = (ws : List Wall) (n k : ℕ) (l r : Exp) (q : Point) (s a : Sum) (first w : ℕ) → Every (IsWall k) ws → IsPoint q → IsThetaProduct ws n l r q s → Runs ws n q s first (n + 1) a w → IsFamily ws n l r q a
+
+-- no coefficient of what they leave of the product exceeds the running weight
+abbrev pub StepsLeaveLight : Type 0
+StepsLeaveLight = (ws : List Wall) (n k : ℕ) (l r : Exp) (q : Point) (s a : Sum) (x y w : ℕ) (thetas : Exp → Sum) → Every (IsWall k) ws → IsPoint q
+    → IsAskFault ws n l q None → IsAskFault ws n r q None → IsThetaWeight ws n l q x → IsThetaWeight ws n r q y → IsThetaProduct ws n l r q s
+    → (d : ℕ) → Runs ws n q s (x * y) d a w → AreThetas ws n q a thetas → (z : Key) → degree z ≤ n → nat_abs (coef (s ++ minus (combined n thetas a)) z) ≤ w
 
 -- the product of two thetas has a first fault, or none
 abbrev pub ProductFaultExists : Type 0
