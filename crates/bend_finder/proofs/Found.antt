@@ -6,7 +6,7 @@ use Rattle.scattering.specs.Series.{Exp, Sum, degree, coef, pow, absolute, mass_
 use Rattle.scattering.specs.Plane.{Point, IsPoint, IsNear, IsDirection, Beyond, point_before}
 use Rattle.scattering.specs.Wall.{Wall, IsWall, is_on, is_live, cut_walls}
 use Rattle.scattering.specs.ActivePoint.{is_special}
-use Rattle.scattering.specs.BrokenLine.{Bend, live_on, product, across, bend_majorant}
+use Rattle.scattering.specs.BrokenLine.{Bend, live_on, product, across, bend_majorant, bend_series}
 use Rattle.scattering.specs.Theta.{is_on_live}
 use Rattle.scattering.proofs.Lists.{Every-at, Every-from_In, Every-implies, Every-images, In-map, and-in, filter-keeps, filter-from, any-true, any-some, bool_iff}
 use Rattle.broken_line_theory.proofs.Bends.{IsTame}
@@ -27,6 +27,7 @@ use Rattle.bend_finder.proofs.LiveCut.{live-on_live}
 use Rattle.bend_finder.proofs.Directions.{beyond-shorter, beyond-longer, crosses-shorter, crosses-longer}
 use Rattle.bend_finder.proofs.SpecialPoints.{special-on_live, least-special}
 use Rattle.bend_finder.proofs.PowerMajorants.{bend-keepable, bend-lower, mass-same}
+use Rattle.bend_finder.proofs.ExactPowers.{series-lower}
 use Rattle.bend_finder.proofs.PointBends.{sorted-distinct}
 
 tame-walls : (n : ℕ) (ls : List Wall) → Every (IsWall n) ls → Every IsTame ls
@@ -66,6 +67,23 @@ module _ (ws : List Wall) (b : ℕ) (live : List CodeWall) (ready : IsReady b ws
       from t =
           let w = any-some (λ (w : Wall). true) (live_on (cut_walls b ws) q) t in
           let o = filter-from (λ w. is_live w && is_on w q) ls w.0 (subst (In w.0) (sym (same-live q)) w.1) in (w.0, o.0, o.1)
+
+  -- the weight and the value of a bend
+  pub light-live : (m : ℕ) (x : Exp) (c : Bend) → degree c.key ≤ b → bend_weight ws b x c ≤ m → mass_to (degree c.key) (bend_majorant (degree c.key) ls c.at x) ≤ m
+  light-live m x c l h =
+      let d = degree c.key in
+      let e : mass_to d (bend_majorant b (cut_walls b ws) c.at x) ≡ mass_to d (bend_majorant d ls c.at x) =
+      ap (mass_to d) (sym (same-majorant c.at x))
+      ∙ mass-same d (bend_majorant b ls c.at x) (bend_majorant d ls c.at x) (bend-keepable b ls c.at x) (bend-keepable d ls c.at x) (λ k i. bend-lower d b l ls c.at x k i) in
+      subst (λ (k : ℕ). k ≤ m) e h
+
+  pub value-live : (x : Exp) (c : Bend) → degree c.key ≤ b → coef (bend_series (degree c.key) ls c.at x) c.key ≡ coef (bend_series b (cut_walls b ws) c.at x) c.key
+  value-live x c l =
+      sym (series-lower (degree c.key) b l ls c.at (across (live_on ls c.at) x) c.key (itself (degree c.key)))
+      ∙ ap (λ us. coef (pow b (product b (map (λ w. w.function) us)) (across us x)) c.key) (same-live c.at)
+    where
+      itself : (n : ℕ) → n ≤ n
+      itself n = omega arith
 
   module _ (p : Point) (e x : Exp) (along : IsMultiple e x) (primitive : IsDirection e) (most : ℕ) (low : most ≤ b) (ps : List CodePoint) (far : Bool) (h : AreCandidates live p e ps far) where
     -- crossings

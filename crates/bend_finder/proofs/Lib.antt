@@ -3,6 +3,8 @@ pub mod Directions
 pub mod WallCrossings
 pub mod SpecialPoints
 pub mod PowerMajorants
+pub mod ExactPowers
+pub mod KeptEntries
 pub mod TermMasses
 pub mod PointBends
 pub mod Found

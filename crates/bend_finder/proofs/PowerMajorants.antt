@@ -21,12 +21,12 @@ use Rattle.broken_line_theory.proofs.Terms.{IsKept, AllKeys, all-product, all-ab
 use Rattle.trunc_series.specs.declared.arithmetic.Arithmetic.TheVariants.{Saturating}
 use Rattle.trunc_series.specs.Shown.{Seen, HasNearTerms, IsSeriesOf}
 use Rattle.trunc_series.specs.Arithmetic.{limit}
-use Rattle.trunc_series.specs.Capped.{IsMajorantOf}
+use Rattle.trunc_series.specs.Capped.{IsMajorant, IsMajorantOf}
 use Rattle.trunc_series.proofs.Coefficients.{abs-add}
 use Rattle.trunc_series.proofs.Merging.{Keepable, whole}
 use Rattle.trunc_series.proofs.Rows.{mul-keepable}
 use Rattle.trunc_series.proofs.Congruence.{mul-comm, product-reduced}
-use Rattle.trunc_series.proofs.PowerLaws.{mul-same_to, pow-keepable, reduced-keys, one-reduced}
+use Rattle.trunc_series.proofs.PowerLaws.{mul-same_to, pow-low, pow-keepable, reduced-keys, one-reduced}
 use Rattle.trunc_series.proofs.Inverses.{pow-reduced}
 use Rattle.trunc_series.proofs.Majorants.{reduced-capped}
 use Rattle.trunc_series.proofs.MajorantLaws.{reduced-of, absolute-positive, majorant-mass}
@@ -38,7 +38,7 @@ use Rattle.scatter_diagram.proofs.Walls.{are-tame, function-cut}
 use Rattle.plane_geom.specs.Shown.{vector_of}
 use Rattle.joint_finder.proofs.Lists.{In-get}
 use Rattle.bend_finder.specs.Special.{live_holds}
-use Rattle.bend_finder.specs.Powers.{AreAtLeast, functions_on, IsMultiplied}
+use Rattle.bend_finder.specs.Powers.{AreAtLeast, functions_on, IsMultiplied, power_majorant}
 
 -- ---- majorants of products and powers
 
@@ -73,10 +73,10 @@ pub bend-keepable : (n : ℕ) (ls : List Wall) (q : Point) (x : Exp) → Keepabl
 bend-keepable n ls q x = pow-keepable Saturating n (product n (functions_on ls q)) (product-keepable n (functions_on ls q) (functions-keepable (live_on ls q))) (across (live_on ls q) x)
 
 -- no exponent is above 64 times its degree
-abbrev TameKey : Key → Type 0
+abbrev pub TameKey : Key → Type 0
 TameKey k = (nat_abs k.exp.a ≤ 64 * degree k) × (nat_abs k.exp.b ≤ 64 * degree k)
 
-tame-kept : IsKept TameKey
+pub tame-kept : IsKept TameKey
 tame-kept = record {
   unit = (omega arith, omega arith);
   mul = λ k l h i. let d = degree-mul k l in let a = abs-add k.exp.a l.exp.a in let b = abs-add k.exp.b l.exp.b in (omega (arith, d, a, h, i), omega (arith, d, b, h, i));
@@ -96,7 +96,7 @@ tame-constant k h z =
     none : (a : ℤ) → nat_abs a ≤ 0 → a ≡ pos 0
     none a l = omega (arith, ints, l)
 
-tame-rest : (f : Sum) → Every (λ t. TameKey t.0) f → Every (λ t. 1 ≤ degree t.0) (rest f)
+pub tame-rest : (f : Sum) → Every (λ t. TameKey t.0) f → Every (λ t. 1 ≤ degree t.0) (rest f)
 tame-rest f h = Every-from_In (λ t. 1 ≤ degree t.0) (rest f) one-by-one
   where
     one-by-one : (t : Term) → In t (rest f) → 1 ≤ degree t.0
@@ -116,7 +116,7 @@ tame-rest f h = Every-from_In (λ t. 1 ≤ degree t.0) (rest f) one-by-one
             below zero n = refl
             below (suc d) n = absurd (n (omega arith))
 
-near-tame : (n : ℕ) (f : Sum) → n ≤ 24 → Every (λ t. TameKey t.0) f → Every (λ t. degree t.0 ≤ n) f → HasNearTerms f
+pub near-tame : (n : ℕ) (f : Sum) → n ≤ 24 → Every (λ t. TameKey t.0) f → Every (λ t. degree t.0 ≤ n) f → HasNearTerms f
 near-tame n [] l h d = tt
 near-tame n (t ∷ f) l h d = (let a = h.0.0 in let b = h.0.1 in let e = d.0 in (omega (arith, a, e, l), omega (arith, b, e, l)), near-tame n f l h.1 d.1)
 
@@ -136,7 +136,7 @@ module _ (n : ℕ) (low : n ≤ 24) (ls : List Wall) (tame : AreTameWalls ls) (m
 
 -- ---- a function cut to the degree of the product
 
-absolute-cut : (n : ℕ) (f : Sum) → absolute (cut n f) ≡ cut n (absolute f)
+pub absolute-cut : (n : ℕ) (f : Sum) → absolute (cut n f) ≡ cut n (absolute f)
 absolute-cut n [] = refl
 absolute-cut n (t ∷ f) = go (nat_le (degree t.0) n) (absolute-cut n f)
   where
@@ -161,17 +161,17 @@ row-cut_again n b l (t ∷ f) g =
     filter-append (λ _. true) (λ t. nat_le (degree t.0) n) (cut b (map (term_mul t) g)) (mul b f g)
     ∙ (λ i. cut-cut n b l (map (term_mul t) g) i ++ row-cut_again n b l f g i)
 
-mul-lower : (n b : ℕ) → n ≤ b → (f g : Sum) → SameTo n (mul b f g) (mul n f g)
+pub mul-lower : (n b : ℕ) → n ≤ b → (f g : Sum) → SameTo n (mul b f g) (mul n f g)
 mul-lower n b l f g k d = sym (coef-cut n (mul b f g) k d) ∙ ap (λ h. coef h k) (row-cut_again n b l f g)
 
-mul-right : (n : ℕ) (f g g' : Sum) → SameTo n g g' → Same (mul n f g) (mul n f g')
+pub mul-right : (n : ℕ) (f g g' : Sum) → SameTo n g g' → Same (mul n f g) (mul n f g')
 mul-right n f g g' s k = mul-comm n f g k ∙ mul-same_to n g g' f s k ∙ mul-comm n g' f k
 
-product-lower : (n b : ℕ) → n ≤ b → (fs : List Sum) → SameTo n (product b fs) (product n fs)
+pub product-lower : (n b : ℕ) → n ≤ b → (fs : List Sum) → SameTo n (product b fs) (product n fs)
 product-lower n b l [] k d = refl
 product-lower n b l (f ∷ fs) k d = mul-lower n b l f (product b fs) k d ∙ mul-right n f (product b fs) (product n fs) (product-lower n b l fs) k
 
-pow-lower : (n b : ℕ) → n ≤ b → (f g : Sum) → SameTo n f g → (i : ℕ) → SameTo n (pow b f i) (pow n g i)
+pub pow-lower : (n b : ℕ) → n ≤ b → (f g : Sum) → SameTo n f g → (i : ℕ) → SameTo n (pow b f i) (pow n g i)
 pow-lower n b l f g s zero k d = refl
 pow-lower n b l f g s (suc i) k d = mul-lower n b l f (pow b f i) k d ∙ mul-right n f (pow b f i) (pow n g i) (pow-lower n b l f g s i) k ∙ mul-same_to n f g (pow n g i) s k
 
@@ -238,6 +238,44 @@ told-mass n d m f l k h =
       };
       capped = λ k. capped k (dec_le (degree k) d);
     }
+
+-- ---- a majorant cut to a lower degree
+
+pub cut-is_majorant : (n : ℕ) (m : Seen) → n ≤ m.order → IsMajorant m.order m.terms → IsMajorant n (cut n m.terms)
+cut-is_majorant n m l h = record {
+  order = let o = h.order in omega (arith, l, o);
+  series = record {
+    rises = pairs-filter _ (λ t. nat_le (degree t.0) n) m.terms h.series.rises;
+    nonzero = Every-filter _ (λ t. nat_le (degree t.0) n) m.terms h.series.nonzero;
+    low = low-cut n m.terms;
+  };
+  range = Every-filter _ (λ t. nat_le (degree t.0) n) m.terms h.range;
+}
+
+-- it is one of the power to that degree
+pub lower-majorant : (n : ℕ) (m l : Seen) (ls : List Wall) (q : Point) (i : ℕ) → n ≤ m.order → IsMajorantOf m m.order (power_majorant m.order ls q i) → l.order ≡ n → l.terms ≡ cut n m.terms → IsMajorantOf l n (power_majorant n ls q i)
+lower-majorant n m l ls q i le h o e = record {
+  order = o;
+  series = subst (IsSeries n) (sym e) record {
+    rises = pairs-filter _ (λ t. nat_le (degree t.0) n) m.terms h.series.rises;
+    nonzero = Every-filter _ (λ t. nat_le (degree t.0) n) m.terms h.series.nonzero;
+    low = low-cut n m.terms;
+  };
+  capped = λ k. ap (λ f. coef f k) e ∙ capped k (dec_le (degree k) n);
+}
+  where
+    power : ℕ → Sum
+    power d = power_majorant d ls q i
+
+    capped : (k : Key) → Dec (degree k ≤ n) → coef (cut n m.terms) k ≡ int_min (coef (power n) k) limit
+    capped k (yes d) =
+        coef-cut n m.terms k d ∙ h.capped k ∙ ap (λ c. int_min c limit) (pow-lower n m.order le (product m.order (functions_on ls q)) (product n (functions_on ls q)) (product-lower n m.order le (functions_on ls q)) i k d)
+    capped k (no d) =
+        let above : n < degree k = higher (degree k) d in
+        coef-above n (cut n m.terms) k (low-cut n m.terms) above ∙ ap (λ c. int_min c limit) (sym (coef-above n (power n) k (pow-low n (product n (functions_on ls q)) i) above))
+      where
+        higher : (e : ℕ) → (e ≤ n → ⊥) → n < e
+        higher e f = omega (arith, f)
 
 -- ---- the product, wall by wall, from the last
 

@@ -36,7 +36,7 @@ use Rattle.joint_finder.proofs.Meetings.{one-point}
 use Rattle.joint_finder.proofs.Sorted.{sorted-points, kept-points, points-from}
 use Rattle.bend_finder.specs.declared.crossings.Crossing.{Crossing}
 use Rattle.bend_finder.specs.declared.crossings.Crossing.TheVariants.{Missed, TooFar, At}
-use Rattle.bend_finder.specs.Crossings.{Crosses, CrossesSome, IsCrossing, IsUnless, AreCrossings, IsStartOf, IsStartAhead, AreCandidates}
+use Rattle.bend_finder.specs.Crossings.{MeetsAcross, CrossesSome, IsCrossing, IsUnless, AreCrossings, IsStartOf, IsStartAhead, AreCandidates}
 
 -- ---- on the stretch, and beyond its first point
 
@@ -68,19 +68,19 @@ not-beyond p e i n h =
 -- ---- one wall
 
 -- it crosses a wall in one point at most
-crosses-common : (p : Point) (e : Exp) (w : Wall) (q : Point) → IsPoint p → Crosses p e w q → IsCommon w.at w.dir p e q
+crosses-common : (p : Point) (e : Exp) (w : Wall) (q : Point) → IsPoint p → MeetsAcross p e w q → IsCommon w.at w.dir p e q
 crosses-common p e w q i h = record {
   point = h.0;
   first = int_eq-same (det w.dir (difference w.at q)) (pos 0) (and-left (int_eq (det w.dir (difference w.at q)) (pos 0)) (allows w.kind (dot w.dir (difference w.at q))) h.2);
   second = (beyond-test p e q i.below h.0.below (crossed-moves w.dir e h.3) h.1).0;
 }
 
-pub crosses-once : (p : Point) (e : Exp) (w : Wall) (q r : Point) → IsPoint p → IsPoint w.at → Crosses p e w q → Crosses p e w r → q ≡ r
+pub crosses-once : (p : Point) (e : Exp) (w : Wall) (q r : Point) → IsPoint p → IsPoint w.at → MeetsAcross p e w q → MeetsAcross p e w r → q ≡ r
 crosses-once p e w q r i j h k = common-unique w.at w.dir p e q r j i h.3 (crosses-common p e w q i h) (crosses-common p e w r i k)
 
 module _ (p : CodePoint) (d : Direction) (w : CodeWall) (s : Support) (form : IsSupportOf (wall_of w) s) (points : (q : Point) → IsPoint q → OnSupport s q ↔ On (wall_of w) q) where
   -- what is on both supports is a crossing
-  pub meets-crosses : (q : Point) → IsPoint q → det (vector_of d) (support_dir s) ≢ pos 0 → FromOn (point_of p) (vector_of d) q → OnSupport s q → q ≢ point_of p → Crosses (point_of p) (vector_of d) (wall_of w) q
+  pub meets-crosses : (q : Point) → IsPoint q → det (vector_of d) (support_dir s) ≢ pos 0 → FromOn (point_of p) (vector_of d) q → OnSupport s q → q ≢ point_of p → MeetsAcross (point_of p) (vector_of d) (wall_of w) q
   meets-crosses q i n h k ne = (i, from-beyond (point_of p) (vector_of d) q p.reduced i h ne, (on-is-decided w.function.order (wall_of w) q (is-wall w) i).1 ((points q i).0 k), across)
     where
       across : det (vector_of w.dir) (vector_of d) ≢ pos 0
@@ -89,7 +89,7 @@ module _ (p : CodePoint) (d : Direction) (w : CodeWall) (s : Support) (form : Is
           let b = det-back (support_dir s) (vector_of d) in n (omega (arith, ints, a, b))
 
   -- and a crossing is on both
-  pub crosses-meets : (q : Point) → Crosses (point_of p) (vector_of d) (wall_of w) q → (det (vector_of d) (support_dir s) ≢ pos 0) × FromOn (point_of p) (vector_of d) q × OnSupport s q
+  pub crosses-meets : (q : Point) → MeetsAcross (point_of p) (vector_of d) (wall_of w) q → (det (vector_of d) (support_dir s) ≢ pos 0) × FromOn (point_of p) (vector_of d) q × OnSupport s q
   crosses-meets q h = (across, beyond-from (point_of p) (vector_of d) q h.1, (points q h.0).1 ((on-is-decided w.function.order (wall_of w) q (is-wall w) h.0).0 h.2))
     where
       across : det (vector_of d) (support_dir s) ≢ pos 0
@@ -104,7 +104,7 @@ module _ (p : CodePoint) (d : Direction) (w : CodeWall) (s : Support) (form : Is
       let same : r ≡ point_of p = one-point (Half p d) s r (point_of q) c.0 q.reduced n m.1 m.2 h k ∙ u in
       not-beyond (point_of p) (vector_of d) p.reduced (direction-not_origin (vector_of d) d.primitive) (subst (Beyond (point_of p) (vector_of d)) same c.1)
   unless-crossing q TooFar u n h k = absurd u
-  unless-crossing q (At r) u n h k = subst (λ (r : CodePoint). Crosses (point_of p) (vector_of d) (wall_of w) (point_of r)) (sym u.0) (meets-crosses (point_of q) q.reduced n h k u.1)
+  unless-crossing q (At r) u n h k = subst (λ (r : CodePoint). MeetsAcross (point_of p) (vector_of d) (wall_of w) (point_of r)) (sym u.0) (meets-crosses (point_of q) q.reduced n h k u.1)
 
   pub far-crossing : det (vector_of d) (support_dir s) ≢ pos 0 → ((q : Point) × IsPoint q × FromOn (point_of p) (vector_of d) q × OnSupport s q × (IsNear q → ⊥)) → IsCrossing (point_of p) (vector_of d) (wall_of w) TooFar
   far-crossing n q = (q.0, meets-crosses q.0 q.1 n q.2 q.3 (λ e. q.4 (subst IsNear (sym e) p.near)), q.4)
@@ -128,18 +128,18 @@ module _ (ls : List Wall) (p : Point) (e : Exp) (ps : List CodePoint) (far : Boo
   old : (q : Point) → CrossesSome ls p e q → CrossesSome (ls ++ w ∷ []) p e q
   old q c = (c.0, In-left ls (w ∷ []) c.0 c.1, c.2)
 
-  new : (q : Point) → Crosses p e w q → CrossesSome (ls ++ w ∷ []) p e q
+  new : (q : Point) → MeetsAcross p e w q → CrossesSome (ls ++ w ∷ []) p e q
   new q c = (w, In-right ls (w ∷ []) w (inl refl), c)
 
-  last : (q : Point) → CrossesSome (ls ++ w ∷ []) p e q → CrossesSome ls p e q ⊎ Crosses p e w q
+  last : (q : Point) → CrossesSome (ls ++ w ∷ []) p e q → CrossesSome ls p e q ⊎ MeetsAcross p e w q
   last q c = go (In-append ls (w ∷ []) c.0 c.1)
     where
-      go : In c.0 ls ⊎ In c.0 (w ∷ []) → CrossesSome ls p e q ⊎ Crosses p e w q
+      go : In c.0 ls ⊎ In c.0 (w ∷ []) → CrossesSome ls p e q ⊎ MeetsAcross p e w q
       go (inl i) = inl (c.0, i, c.2)
-      go (inr (inl s)) = inr (subst (λ (v : Wall). Crosses p e v q) s c.2)
+      go (inr (inl s)) = inr (subst (λ (v : Wall). MeetsAcross p e v q) s c.2)
       go (inr (inr f)) = absurd f
 
-  pub missed-more : ((q : Point) → Crosses p e w q → ⊥) → AreCrossings (ls ++ w ∷ []) p e ps far
+  pub missed-more : ((q : Point) → MeetsAcross p e w q → ⊥) → AreCrossings (ls ++ w ∷ []) p e ps far
   missed-more n = record {
     each = λ q i. old q (h.each q i);
     all = λ q c l. h.all q (before q (last q c)) l;
@@ -147,11 +147,11 @@ module _ (ls : List Wall) (p : Point) (e : Exp) (ps : List CodePoint) (far : Boo
     near = λ t q c. h.near t q (before q (last q c));
   }
     where
-      before : (q : Point) → CrossesSome ls p e q ⊎ Crosses p e w q → CrossesSome ls p e q
+      before : (q : Point) → CrossesSome ls p e q ⊎ MeetsAcross p e w q → CrossesSome ls p e q
       before q (inl c) = c
       before q (inr c) = absurd (n q c)
 
-  pub far-more : IsPoint p → IsPoint w.at → ((q : Point) × Crosses p e w q × (IsNear q → ⊥)) → AreCrossings (ls ++ w ∷ []) p e ps true
+  pub far-more : IsPoint p → IsPoint w.at → ((q : Point) × MeetsAcross p e w q × (IsNear q → ⊥)) → AreCrossings (ls ++ w ∷ []) p e ps true
   far-more i j f = record {
     each = λ q k. old q (h.each q k);
     all = λ q c l. h.all q (before q l (last q c)) l;
@@ -159,11 +159,11 @@ module _ (ls : List Wall) (p : Point) (e : Exp) (ps : List CodePoint) (far : Boo
     near = λ t q c. absurd (cc);
   }
     where
-      before : (q : Point) → IsNear q → CrossesSome ls p e q ⊎ Crosses p e w q → CrossesSome ls p e q
+      before : (q : Point) → IsNear q → CrossesSome ls p e q ⊎ MeetsAcross p e w q → CrossesSome ls p e q
       before q l (inl c) = c
       before q l (inr c) = absurd (f.2 (subst IsNear (crosses-once p e w q f.0 i j c f.1) l))
 
-  pub at-more : IsPoint p → IsPoint w.at → (r : CodePoint) → Crosses p e w (point_of r) → AreCrossings (ls ++ w ∷ []) p e (ps ++ r ∷ []) far
+  pub at-more : IsPoint p → IsPoint w.at → (r : CodePoint) → MeetsAcross p e w (point_of r) → AreCrossings (ls ++ w ∷ []) p e (ps ++ r ∷ []) far
   at-more i j r c = record {
     each = λ q k. from q (In-append (points_of ps) (point_of r ∷ []) q (subst (In q) joined k));
     all = λ q k l. subst (In q) (sym joined) (to q l (last q k));
@@ -176,14 +176,14 @@ module _ (ls : List Wall) (p : Point) (e : Exp) (ps : List CodePoint) (far : Boo
 
       from : (q : Point) → In q (points_of ps) ⊎ In q (point_of r ∷ []) → CrossesSome (ls ++ w ∷ []) p e q
       from q (inl k) = old q (h.each q k)
-      from q (inr (inl s)) = new q (subst (Crosses p e w) (sym s) c)
+      from q (inr (inl s)) = new q (subst (MeetsAcross p e w) (sym s) c)
       from q (inr (inr f)) = absurd f
 
-      to : (q : Point) → IsNear q → CrossesSome ls p e q ⊎ Crosses p e w q → In q (points_of ps ++ point_of r ∷ [])
+      to : (q : Point) → IsNear q → CrossesSome ls p e q ⊎ MeetsAcross p e w q → In q (points_of ps ++ point_of r ∷ [])
       to q l (inl k) = In-left (points_of ps) (point_of r ∷ []) q (h.all q k l)
       to q l (inr k) = In-right (points_of ps) (point_of r ∷ []) q (inl (crosses-once p e w q (point_of r) i j k c))
 
-      close : (far ≡ false) → (q : Point) → CrossesSome ls p e q ⊎ Crosses p e w q → IsNear q
+      close : (far ≡ false) → (q : Point) → CrossesSome ls p e q ⊎ MeetsAcross p e w q → IsNear q
       close t q (inl k) = h.near t q k
       close t q (inr k) = subst IsNear (sym (crosses-once p e w q (point_of r) i j k c)) r.near
 

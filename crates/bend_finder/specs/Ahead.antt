@@ -40,8 +40,8 @@ seen_ahead cs f o = record { bends = bends_of cs; far = f; special = option_map 
 
 -- ---- exponents that a stretch may have
 
-abbrev pub Moves : CodeExp → Type 0
-Moves x = exp_of x ≢ origin
+abbrev pub IsNonzero : CodeExp → Type 0
+IsNonzero x = exp_of x ≢ origin
 
 -- an exponent that is asked for, up to 2048, and what is reached within degree 24
 abbrev pub largest_traced : ℕ

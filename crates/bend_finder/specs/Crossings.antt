@@ -1,5 +1,5 @@
 -- Where a stretch from p along e crosses walls that aren't parallel to it.
---     Crosses p e w q             it crosses w at q
+--     MeetsAcross p e w q             it crosses w at q
 --     IsCrossing p e w c          c tells where it crosses w
 --     AreCrossings ls p e ps told      ps are its near crossings of the walls ls; told tells whether there are others
 --     AreCandidates ws p e ps told     likewise, with the points of walls on the stretch, sorted
@@ -17,16 +17,16 @@ use Rattle.joint_finder.specs.Strands.{OfSome}
 use Rattle.bend_finder.specs.declared.crossings.Crossing.{Crossing}
 use Rattle.bend_finder.specs.declared.crossings.Crossing.TheVariants.{Missed, TooFar, At}
 
-abbrev pub Crosses : Point → Exp → Wall → Point → Type 0
-Crosses p e w q = IsPoint q × Beyond p e q × IsTrue (is_on w q) × (det w.dir e ≢ pos 0)
+abbrev pub MeetsAcross : Point → Exp → Wall → Point → Type 0
+MeetsAcross p e w q = IsPoint q × Beyond p e q × IsTrue (is_on w q) × (det w.dir e ≢ pos 0)
 
 abbrev pub CrossesSome : List Wall → Point → Exp → Point → Type 0
-CrossesSome ls p e q = (w : Wall) × In w ls × Crosses p e w q
+CrossesSome ls p e q = (w : Wall) × In w ls × MeetsAcross p e w q
 
 abbrev pub IsCrossing : Point → Exp → Wall → Crossing → Type 0
-IsCrossing p e w Missed = (q : Point) → Crosses p e w q → ⊥
-IsCrossing p e w TooFar = (q : Point) × Crosses p e w q × (IsNear q → ⊥)
-IsCrossing p e w (At r) = Crosses p e w (point_of r)
+IsCrossing p e w Missed = (q : Point) → MeetsAcross p e w q → ⊥
+IsCrossing p e w TooFar = (q : Point) × MeetsAcross p e w q × (IsNear q → ⊥)
+IsCrossing p e w (At r) = MeetsAcross p e w (point_of r)
 
 -- q, unless it is p
 abbrev pub IsUnless : Point → CodePoint → Crossing → Type 0

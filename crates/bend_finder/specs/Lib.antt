@@ -3,4 +3,5 @@ pub mod Live
 pub mod Crossings
 pub mod Special
 pub mod Powers
+pub mod Kept
 pub mod Bends

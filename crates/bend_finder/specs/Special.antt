@@ -21,11 +21,11 @@ HoldsSome ws p = (w : Wall) × In w ws × IsTrue (live_holds w p)
 abbrev pub IsCrossedBy : List Wall → Point → Wall → Type 0
 IsCrossedBy ws p u = (v : Wall) × In v ws × IsTrue (live_crosses v p u)
 
-abbrev pub IsCrossed : List Wall → Point → Wall → Type 0
-IsCrossed ws p u = IsTrue (live_holds u p) × IsCrossedBy ws p u
+abbrev pub HasCrossing : List Wall → Point → Wall → Type 0
+HasCrossing ws p u = IsTrue (live_holds u p) × IsCrossedBy ws p u
 
 abbrev pub IsCrossedAt : List Wall → Point → Type 0
-IsCrossedAt ws p = (u : Wall) × In u ws × IsCrossed ws p u
+IsCrossedAt ws p = (u : Wall) × In u ws × HasCrossing ws p u
 
 -- a live ray starts at p
 abbrev pub StartsLive : List Wall → Point → Type 0

@@ -3,7 +3,7 @@
 ghost use Rattle.scattering.specs.Series.{IsMultiple};
 ghost use Rattle.plane_geom.specs.Shown.{vector_of};
 ghost use Rattle.trunc_series.specs.Shown.{exp_of};
-ghost use Rattle.bend_finder.specs.Ahead.{Moves, IsTraceable};
+ghost use Rattle.bend_finder.specs.Ahead.{IsNonzero, IsTraceable};
 
 use frac_128::gcd;
 use plane_geom::Direction;
@@ -11,7 +11,7 @@ use trunc_series::Exp;
 
 /// The exponent, divided by the greatest common divisor of its numbers.
 pub(crate) fn direction_of(x: Exp) -> Direction
-    requires moves { Moves x }
+    requires moves { IsNonzero x }
     requires small { IsTraceable x }
     ensures { IsMultiple (vector_of result) (exp_of x) }
 {

@@ -1,15 +1,20 @@
 // The walls of a diagram, ready for stretches.
 
 ghost use Rattle.std.specs.Prelude.{◌≡◌, ◌≤◌, IfOk};
+ghost use Rattle.limits.specs.Limits.{largest_weight};
+ghost use Rattle.scattering.specs.Series.{coef, degree};
 ghost use Rattle.scattering.specs.Wall.{walls, cut_walls};
+ghost use Rattle.scattering.specs.BrokenLine.{bend_series};
 ghost use Rattle.scattering.specs.Theta.{is_on_live};
 ghost use Rattle.plane_geom.specs.Shown.{point_of};
-ghost use Rattle.trunc_series.specs.Shown.{exp_of};
-ghost use Rattle.bend_finder.specs.Ahead.{finder, Moves, IsTraceable, IsAhead};
+ghost use Rattle.trunc_series.specs.Shown.{exp_of, key_of};
+ghost use Rattle.bend_finder.specs.Ahead.{finder, IsNonzero, IsTraceable, IsAhead, bend_of, bend_weight};
 
 use crate::ahead::Ahead;
+use crate::bend::Bend;
 use crate::candidates::candidates_ahead;
 use crate::direction::direction_of;
+use crate::kept::KeptPowers;
 use crate::live::live_walls;
 use crate::special::is_on_some;
 use crate::turns::{bends_at, first_special};
@@ -27,18 +32,19 @@ pub struct BendFinder<'e> {
     limit: u32,
     /// Those that are live then.
     live: Vec<Wall>,
+    kept: KeptPowers,
 }
 
 impl<'e> Model for BendFinder<'e> {
     ghost use Rattle.scattering.specs.Wall.{walls};
     ghost use Rattle.bend_finder.specs.Ahead.{SeenFinder, finder};
-    ghost use Rattle.bend_finder.specs.Live.{IsReady};
+    ghost use Rattle.bend_finder.specs.Kept.{IsReadyWith};
 
     ghost Value = { SeenFinder };
 
     ghost view = { λ f. finder (walls f.diagram.now.diagram) f.limit };
 
-    ghost invariant = { λ f. IsReady f.limit (walls f.diagram.now.diagram) f.live.items };
+    ghost invariant = { λ f. IsReadyWith f.limit (walls f.diagram.now.diagram) f.live.items f.kept };
 }
 
 impl<'e> BendFinder<'e> {
@@ -54,6 +60,7 @@ impl<'e> BendFinder<'e> {
             diagram: e,
             limit,
             live,
+            kept: KeptPowers::new(alloc),
         })
     }
 
@@ -67,7 +74,7 @@ impl<'e> BendFinder<'e> {
     /// What the stretch from a point, traced backwards with the exponent x, finds ahead of it. Bends have keys of
     /// degree at most `most`.
     pub fn ahead(&mut self, p: &Point, x: Exp, most: u32) -> Result<Ahead, AllocError>
-        requires moves { Moves x }
+        requires moves { IsNonzero x }
         requires small { IsTraceable x }
         requires most { most ≤ self.old.limit }
         ensures same { self.new ≡ self.old }
@@ -79,9 +86,28 @@ impl<'e> BendFinder<'e> {
         let found = candidates_ahead(self.alloc, live, p, &d)?;
         let points = found.points.as_slice();
         Ok(Ahead {
-            bends: bends_at(self.alloc, live, points, x, most)?,
+            bends: bends_at(&mut self.kept, self.alloc, live, points, x, most)?,
             far: found.far,
             special: first_special(live, points),
         })
+    }
+
+    /// The coefficient of F^n at the key of a bend, where a broken line with the exponent x turns: F is the product
+    /// of the functions of the live walls there, n = |det(d, x)| for their direction d.
+    pub fn value(&mut self, x: Exp, bend: &Bend) -> Result<i128, AllocError>
+        requires small { IsTraceable x }
+        requires degree { degree (key_of bend.now.key) ≤ self.old.limit }
+        requires light { bend_weight self.old.walls self.old.limit (exp_of x) (bend_of bend.now)
+            ≤ largest_weight }
+        ensures same { self.new ≡ self.old }
+        ensures value { IfOk result (λ c. c ≡ coef (bend_series self.old.limit
+            (cut_walls self.old.limit self.old.walls) (point_of bend.now.at) (exp_of x))
+            (key_of bend.now.key)) }
+    {
+        let live = self.live.as_slice();
+        let value = self
+            .kept
+            .coefficient(self.alloc, live, &bend.at, x, &bend.key)?;
+        Ok(value)
     }
 }

@@ -1,5 +1,6 @@
 //! What a stretch of a broken line that is traced backwards finds ahead of it: the bends that it may go on with,
-//! with their weights, whether it crosses a wall too far away, and the least special point.
+//! with their weights, whether it crosses a wall too far away, and the least special point. Also what a broken line is
+//! multiplied by at a bend.
 #![tactic(auto)]
 
 mod ahead;
@@ -8,10 +9,13 @@ mod candidates;
 mod crossings;
 mod direction;
 mod finder;
+mod kept;
 mod live;
 mod masses;
+mod power_key;
 mod powers;
 mod products;
+mod series_powers;
 mod special;
 mod turns;
 

@@ -1,15 +1,15 @@
 // |F|^n at a point, for the product F of the functions of the live walls there.
 
-ghost use Rattle.std.specs.Prelude.{◌≡◌, ◌≤◌, IfOk};
+ghost use Rattle.std.specs.Prelude.{◌≡◌, ◌≤◌, ◌^◌, IfOk};
 ghost use Rattle.limits.specs.Limits.{highest_order};
 ghost use Rattle.scattering.specs.Series.{absolute, cut, one};
-ghost use Rattle.scattering.specs.BrokenLine.{live_on, product, across, bend_majorant};
+ghost use Rattle.scattering.specs.BrokenLine.{live_on, product, across};
 ghost use Rattle.plane_geom.specs.Shown.{point_of};
 ghost use Rattle.trunc_series.specs.Shown.{exp_of, HasNearTerms};
 ghost use Rattle.trunc_series.specs.Capped.{IsMajorantOf};
 ghost use Rattle.scatter_diagram.specs.Shown.{wall_of, walls_of};
 ghost use Rattle.bend_finder.specs.Ahead.{IsTraceable};
-ghost use Rattle.bend_finder.specs.Powers.{AreAtLeast, IsMultiplied, functions_on};
+ghost use Rattle.bend_finder.specs.Powers.{AreAtLeast, IsMultiplied, functions_on, power_majorant};
 
 use crate::products::det;
 use crate::special::is_live_on;
@@ -18,22 +18,21 @@ use scatter_diagram::Wall;
 use std::alloc::{AllocError, Global};
 use trunc_series::{Exp, Key, Majorant};
 
-/// |F|^n to degree `most`, for the exponent x: n is |det(d, x)| for the direction d of the walls.
-pub(crate) fn power_at(
+/// |F|^times to degree `most`.
+pub(crate) fn power_on(
     alloc: Global,
     walls: &[Wall],
     q: &Point,
-    x: Exp,
+    times: u32,
     most: u32,
 ) -> Result<Majorant, AllocError>
-    requires small { IsTraceable x }
     requires most { most ≤ highest_order }
     requires order { AreAtLeast most walls.now }
     ensures { IfOk result (λ m. IsMajorantOf m most
-        (bend_majorant most (walls_of walls.now) (point_of q.now) (exp_of x))) }
+        (power_majorant most (walls_of walls.now) (point_of q.now) times)) }
 {
     let product = product_on(alloc, walls, q, most)?;
-    let power = product.power(across(walls, q, x))?;
+    let power = product.power(times)?;
     Ok(power)
 }
 
@@ -89,9 +88,10 @@ fn absolute(w: &Wall, most: u32) -> Result<Majorant, AllocError>
 }
 
 /// |det(d, x)| for the first live wall on the point, or 0 where there is none.
-fn across(walls: &[Wall], q: &Point, x: Exp) -> u32
+pub(crate) fn across(walls: &[Wall], q: &Point, x: Exp) -> u32
     requires { IsTraceable x }
-    ensures { result ≡ across (live_on (walls_of walls.now) (point_of q.now)) (exp_of x) }
+    ensures value { result ≡ across (live_on (walls_of walls.now) (point_of q.now)) (exp_of x) }
+    ensures bound { result ≤ 2 ^ 25 }
 {
     for w in walls {
         if is_live_on(w, q) {

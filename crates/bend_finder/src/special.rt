@@ -5,7 +5,7 @@ ghost use Rattle.scattering.specs.ActivePoint.{is_special};
 ghost use Rattle.scattering.specs.Wall.{are_parallel};
 ghost use Rattle.plane_geom.specs.Shown.{point_of};
 ghost use Rattle.scatter_diagram.specs.Shown.{wall_of, walls_of};
-ghost use Rattle.bend_finder.specs.Special.{live_holds, live_starts, live_crosses, HoldsSome, IsCrossed, IsCrossedAt, StartsLive};
+ghost use Rattle.bend_finder.specs.Special.{live_holds, live_starts, live_crosses, HoldsSome, HasCrossing, IsCrossedAt, StartsLive};
 
 use crate::products::det;
 use plane_geom::Point;
@@ -55,7 +55,7 @@ fn has_crossing(walls: &[Wall], p: &Point) -> bool
 
 /// Whether the wall is live and on the point, and some live wall there isn't parallel to it.
 fn is_crossed(walls: &[Wall], p: &Point, u: &Wall) -> bool
-    ensures { IsTrue result ↔ IsCrossed (walls_of walls.now) (point_of p.now) (wall_of u.now) }
+    ensures { IsTrue result ↔ HasCrossing (walls_of walls.now) (point_of p.now) (wall_of u.now) }
 {
     if !is_live_on(u, p) {
         return false;

@@ -12,10 +12,11 @@ ghost use Rattle.joint_finder.specs.Joints.{points_of};
 ghost use Rattle.bend_finder.specs.Ahead.{IsTraceable, bends_of};
 ghost use Rattle.bend_finder.specs.Bends.{AreBends, told_bends, IsFirstSpecial};
 ghost use Rattle.bend_finder.specs.Powers.{AreAtLeast};
+ghost use Rattle.bend_finder.specs.Kept.{AreKeptPowers};
 
 use crate::bend::Bend;
+use crate::kept::KeptPowers;
 use crate::masses::masses;
-use crate::powers::power_at;
 use crate::special::is_special;
 use plane_geom::Point;
 use scatter_diagram::Wall;
@@ -24,6 +25,7 @@ use trunc_series::{Exp, Majorant};
 
 /// The bends of degree at most `most` at those of the points that aren't special, with their weights.
 pub(crate) fn bends_at(
+    kept: &mut KeptPowers,
     alloc: Global,
     walls: &[Wall],
     points: &[Point],
@@ -34,13 +36,15 @@ pub(crate) fn bends_at(
     requires most { most ≤ highest_order }
     requires order { AreAtLeast most walls.now }
     requires sorted { EveryPair (λ p q. IsTrue (point_before p q)) (points_of points.now) }
-    ensures { IfOk result (λ r. AreBends most (walls_of walls.now) (exp_of x) (points_of points.now)
-        (bends_of r.items)) }
+    requires kept { AreKeptPowers (walls_of walls.now) kept.old }
+    ensures bends { IfOk result (λ r. AreBends most (walls_of walls.now) (exp_of x)
+        (points_of points.now) (bends_of r.items)) }
+    ensures kept { AreKeptPowers (walls_of walls.now) kept.new }
 {
     let mut bends = Vec::new(alloc);
     for q in points {
         if !is_special(walls, q) {
-            let power = power_at(alloc, walls, q, x, most)?;
+            let power = kept.majorant(alloc, walls, q, x, most)?;
             add_bends(&mut bends, alloc, q, &power)?;
         }
     }

@@ -1,7 +1,7 @@
 // What stretches find ahead.
 
 ghost use Rattle.std.specs.Prelude.{◌≡◌, ◌≢◌, ◌≤◌, IfOk};
-ghost use Rattle.bend_finder.specs.Ahead.{Moves, IsTraceable};
+ghost use Rattle.bend_finder.specs.Ahead.{IsNonzero, IsTraceable};
 
 use bend_finder::{Bend, BendFinder};
 use plane_geom::Point;
@@ -34,7 +34,7 @@ fn finds(
     bends: &[(Bend, u128)],
     special: Option<Point>,
 ) -> Result<bool, Fail>
-    requires moves { Moves exp }
+    requires moves { IsNonzero exp }
     requires small { IsTraceable exp }
     requires limit { limit ≤ 2 }
 {

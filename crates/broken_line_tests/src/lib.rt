@@ -7,3 +7,5 @@ mod ahead;
 mod reaching;
 #[cfg(test)]
 mod tails;
+#[cfg(test)]
+mod values;

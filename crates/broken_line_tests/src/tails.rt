@@ -16,7 +16,7 @@ use std::alloc::Global;
 use std::test::Fail;
 use trunc_series::{Exp, Key};
 
-const fn exp(a: i32, b: i32) -> Exp
+pub(crate) const fn exp(a: i32, b: i32) -> Exp
     ensures a { result.a ≡ a }
     ensures b { result.b ≡ b }
 {
@@ -24,7 +24,7 @@ const fn exp(a: i32, b: i32) -> Exp
 }
 
 // The completion, at order 2, of the lines with 1 + t1·x and 1 + t2·y.
-fn two_lines(alloc: Global) -> Result<Diagram, Fail>
+pub(crate) fn two_lines(alloc: Global) -> Result<Diagram, Fail>
     ensures { IfOk result (λ e. e.order ≡ 2) }
 {
     let x = [(ONE, 1), (X, 1)];
@@ -37,7 +37,7 @@ fn two_lines(alloc: Global) -> Result<Diagram, Fail>
 }
 
 // The line through (0, 0) along (1, 0) with 1 + t1·x.
-fn one_line(alloc: Global) -> Result<Diagram, Fail>
+pub(crate) fn one_line(alloc: Global) -> Result<Diagram, Fail>
     ensures { IfOk result (λ e. e.order ≡ 1) }
 {
     let mut lines = Vec::new(alloc);

@@ -97,10 +97,10 @@ module _ (ws : List Wall) (b : ℕ) (m : Exp) (q : Point) (s : SeenTracing) (all
       all-near e p h =
           let i = In-map plain s.tails h.1.0 (every-tail h.1.0 h.1.2) in
           Every-at (λ t. (p : Point) → IsHitBy ws b q t p → IsNear p) s.tails i.0 (all.near e) i.1 p
-          (subst (λ (t : Tail). IsPoint p × Beyond (last_point q t.bends) (last t.root t.bends) p × IsCrossed t) i.2 (h.0, h.1.3, (h.1.1, h.1.4, h.1.5)))
+          (subst (λ (t : Tail). IsPoint p × Beyond (last_point q t.bends) (last t.root t.bends) p × HasCrossing t) i.2 (h.0, h.1.3, (h.1.1, h.1.4, h.1.5)))
         where
-          IsCrossed : Tail → Type 0
-          IsCrossed t = (w : Wall) × In w (live_on (cut_walls b ws) p) × (det w.dir (last t.root t.bends) ≢ pos 0)
+          HasCrossing : Tail → Type 0
+          HasCrossing t = (w : Wall) × In w (live_on (cut_walls b ws) p) × (det w.dir (last t.root t.bends) ≢ pos 0)
 
       light-weight : s.weight ≤ largest_weight → (w : ℕ) × IsWeight ws b m q w × (w ≤ largest_weight)
       light-weight l = (s.weight, (plain_tails s.tails, tails-listed, (all-tails s.weight refl l).weight), l)

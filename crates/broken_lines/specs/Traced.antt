@@ -2,7 +2,7 @@
 --     SeenTail, seen_tail, plain        a tail with what it used and the exponent from which it goes on; of the program; as defined
 --     AreTails ws b m q t       t are the tails for m at q, sorted, each once, and the sum of their weights
 --     IsTailsFault ws b m q f   f is want of memory, or the first check that fails
-use Rattle.std.specs.Prelude.{◌≡◌, ℕ, ◌≤◌, nat_abs, List, [], map, IsTrue, Some}
+use Rattle.std.specs.Prelude.{◌≡◌, ℕ, ◌≤◌, nat_abs, List, [], map, IsTrue, Option, Some}
 use Rattle.std.specs.Bool.{MatchBool}
 use Rattle.limits.specs.Limits.{largest_weight}
 use Rattle.scattering.specs.Collections.{Every, EveryPair, Lists}
@@ -69,12 +69,15 @@ pub record AreAllTails (ws : List Wall) (b : ℕ) (m : Exp) (q : Point) (ts : Li
 abbrev pub AreTails : List Wall → ℕ → Exp → Point → Traced → Type 0
 AreTails ws b m q t = MatchBool (exp_eq m origin) ((t.tails.items ≡ []) × (t.weight ≡ 1)) (AreAllTails ws b m q (seen_tails t.tails.items) t.weight)
 
--- only for memory, or the first check that fails
+-- only for memory, or what F says is the first check that fails
+abbrev pub IsFaultBy : (Option D.AskFault → Type 0) → AskFault → Type 0
+IsFaultBy F (NotYet n) = ⊥
+IsFaultBy F (NotGeneric p) = F (Some (D.NotGeneric (point_of p)))
+IsFaultBy F TooManyReach = F (Some D.TooManyReach)
+IsFaultBy F TooManyTails = F (Some D.TooManyTails)
+IsFaultBy F PointTooLarge = F (Some D.PointTooLarge)
+IsFaultBy F WeightTooLarge = F (Some D.WeightTooLarge)
+IsFaultBy F Memory = Unit {0}
+
 abbrev pub IsTailsFault : List Wall → ℕ → Exp → Point → AskFault → Type 0
-IsTailsFault ws b m q (NotYet n) = ⊥
-IsTailsFault ws b m q (NotGeneric p) = IsAskFault ws b m q (Some (D.NotGeneric (point_of p)))
-IsTailsFault ws b m q TooManyReach = IsAskFault ws b m q (Some D.TooManyReach)
-IsTailsFault ws b m q TooManyTails = IsAskFault ws b m q (Some D.TooManyTails)
-IsTailsFault ws b m q PointTooLarge = IsAskFault ws b m q (Some D.PointTooLarge)
-IsTailsFault ws b m q WeightTooLarge = IsAskFault ws b m q (Some D.WeightTooLarge)
-IsTailsFault ws b m q Memory = Unit {0}
+IsTailsFault ws b m q f = IsFaultBy (IsAskFault ws b m q) f

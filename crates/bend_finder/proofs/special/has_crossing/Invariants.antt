@@ -3,8 +3,8 @@ use Rattle.scattering.specs.Collections.{In}
 use Rattle.scattering.specs.Wall.{Wall}
 use Rattle.plane_geom.specs.Shown.{point_of}
 use Rattle.scatter_diagram.specs.Shown.{walls_of}
-use Rattle.bend_finder.specs.Special.{IsCrossed}
+use Rattle.bend_finder.specs.Special.{HasCrossing}
 use Rattle.bend_finder.proofs.special.has_crossing.Given as goal
 
 abbrev pub invariant-loop-w : goal.invariant-loop-w
-invariant-loop-w l = (v : Wall) → In v (walls_of (take l.w-index l.walls)) → IsCrossed (walls_of l.walls) (point_of l.p) v → ⊥
+invariant-loop-w l = (v : Wall) → In v (walls_of (take l.w-index l.walls)) → HasCrossing (walls_of l.walls) (point_of l.p) v → ⊥

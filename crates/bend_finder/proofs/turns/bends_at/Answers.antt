@@ -7,12 +7,16 @@ use Rattle.scatter_diagram.specs.Shown.{walls_of}
 use Rattle.joint_finder.specs.Joints.{points_of}
 use Rattle.bend_finder.specs.Ahead.{bends_of}
 use Rattle.bend_finder.specs.Bends.{AreBends}
+use Rattle.bend_finder.specs.Kept.{AreKeptPowers}
 use Rattle.bend_finder.proofs.PointBends.{no-bends, special-none, bends-more, points-more, points-before, bends-along}
 use Rattle.bend_finder.proofs.turns.bends_at.Goals as goal
 use Rattle.bend_finder.proofs.turns.bends_at.Goals.{then-not-is_special+in_ok-power+in_ok-add_bends, else-not-is_special}
 
 pub loop-q-init : goal.loop-q-init
-loop-q-init c = bends-along c.args.most (walls_of c.args.walls.now) (exp_of c.args.x) [] [] [] _ refl (ap bends_of c.new-bends.ensures.items) (no-bends c.args.most (walls_of c.args.walls.now) (exp_of c.args.x))
+loop-q-init c = record { bends = bends-along c.args.most (walls_of c.args.walls.now) (exp_of c.args.x) [] [] [] _ refl (ap bends_of c.new-bends.ensures.items) (no-bends c.args.most (walls_of c.args.walls.now) (exp_of c.args.x)); kept = c.requires.kept }
+
+pub majorant-requires-clause-kept : goal.majorant-requires-clause-kept
+majorant-requires-clause-kept c = c.loop-q.invariant.kept
 
 pub loop-q-preserved : goal.loop-q-preserved
 loop-q-preserved c =
@@ -26,13 +30,19 @@ loop-q-preserved c =
     let bs = bends_of c.loop-q.bends.items in
     elim c.if-not-is_special.branch [
       | then-not-is_special+in_ok-power+in_ok-add_bends w ↦
-          bends-along n ls x _ _ _ _ more (ap (λ v. bends_of v.items) w.bends-is ∙ w.in_ok-add_bends.ensures)
-          (bends-more n ls x (point_of r) (sym c.is_special.ensures ∙ w.if-not-is_special.true) w.in_ok-power.power w.in_ok-power.ensures (points_of (take i ps)) bs (points-before ps i r c.loop-q-test.true c.q-item.is c.requires.sorted) c.loop-q.invariant)
+          record {
+            bends = bends-along n ls x _ _ _ _ more (ap (λ v. bends_of v.items) w.bends-is ∙ w.in_ok-add_bends.ensures)
+                (bends-more n ls x (point_of r) (sym c.is_special.ensures ∙ w.if-not-is_special.true) w.in_ok-power.power w.in_ok-power.ensures.power (points_of (take i ps)) bs (points-before ps i r c.loop-q-test.true c.q-item.is c.requires.sorted) c.loop-q.invariant.bends);
+            kept = subst (AreKeptPowers ls) (sym w.kept-is) w.in_ok-power.ensures.kept;
+          }
       | else-not-is_special w ↦
-          bends-along n ls x _ _ _ _ more (ap (λ v. bends_of v.items) w.bends-is)
-          (special-none n ls x (points_of (take i ps)) (point_of r) bs (sym c.is_special.ensures ∙ w.if-not-is_special.false) c.loop-q.invariant)
+          record {
+            bends = bends-along n ls x _ _ _ _ more (ap (λ v. bends_of v.items) w.bends-is)
+                (special-none n ls x (points_of (take i ps)) (point_of r) bs (sym c.is_special.ensures ∙ w.if-not-is_special.false) c.loop-q.invariant.bends);
+            kept = subst (AreKeptPowers ls) (sym w.kept-is) c.loop-q.invariant.kept;
+          }
     ]
 
-pub returns : goal.returns
-returns c =
-    subst (λ (ps : List CodePoint). AreBends c.args.most (walls_of c.args.walls.now) (exp_of c.args.x) (points_of ps) (bends_of c.loop-q.bends.items)) (take_all c.loop-q.q-index c.args.points.now c.loop-q-test.false) c.loop-q.invariant
+pub returns-clause-bends : goal.returns-clause-bends
+returns-clause-bends c =
+    subst (λ (ps : List CodePoint). AreBends c.args.most (walls_of c.args.walls.now) (exp_of c.args.x) (points_of ps) (bends_of c.loop-q.bends.items)) (take_all c.loop-q.q-index c.args.points.now c.loop-q-test.false) c.loop-q.invariant.bends

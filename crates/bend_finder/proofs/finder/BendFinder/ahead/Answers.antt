@@ -11,6 +11,7 @@ use Rattle.scatter_diagram.specs.Shown.{walls_of}
 use Rattle.joint_finder.specs.Joints.{points_of}
 use Rattle.bend_finder.specs.Ahead.{bends_of}
 use Rattle.bend_finder.specs.Powers.{AreAtLeast}
+use Rattle.bend_finder.specs.Kept.{AreKeptPowers}
 use Rattle.bend_finder.specs.Crossings.{AreCandidates}
 use Rattle.bend_finder.specs.Bends.{AreBends, IsFirstSpecial}
 use Rattle.bend_finder.proofs.PowerMajorants.{orders-at_least}
@@ -26,9 +27,10 @@ bends_at-requires c =
     let l : c.args.most ≤ f.limit = rw (← c.self.view_is) at c.requires.most in
     record {
       small = c.requires.small;
-      most = (let b = c.self.invariant.low in omega (arith, l, b));
-      order = subst (AreAtLeast c.args.most) (sym c.as_slice-live.ensures.value) (orders-at_least c.args.most f.limit f.live.items l c.self.invariant.order);
+      most = (let b = c.self.invariant.ready.low in omega (arith, l, b));
+      order = subst (AreAtLeast c.args.most) (sym c.as_slice-live.ensures.value) (orders-at_least c.args.most f.limit f.live.items l c.self.invariant.ready.order);
       sorted = sorted c.in_ok-found.found.points.items _ c.as_slice-points.ensures.value c.in_ok-found.ensures.sorted;
+      kept = subst (λ (ws : List CodeWall). AreKeptPowers (walls_of ws) f.kept) (sym c.as_slice-live.ensures.value) c.self.invariant.kept;
     }
 
 pub first_special-requires : goal.first_special-requires
@@ -48,8 +50,8 @@ returns-clause-ahead c =
     let h : AreCandidates f.live.items p (vector_of d) ps far = subst (λ (ws : List CodeWall). AreCandidates ws p (vector_of d) ps far) c.as_slice-live.ensures.value c.in_ok-found.ensures in
     let b : AreBends c.args.most (walls_of f.live.items) x (points_of ps) (bends_of bs) =
     subst (λ (ws : List CodeWall). AreBends c.args.most (walls_of ws) x (points_of ps) (bends_of bs)) c.as_slice-live.ensures.value
-    (subst (λ (qs : List CodePoint). AreBends c.args.most (walls_of c.as_slice-live.result.now) x (points_of qs) (bends_of bs)) c.as_slice-points.ensures.value c.in_ok-bends_at.ensures) in
+    (subst (λ (qs : List CodePoint). AreBends c.args.most (walls_of c.as_slice-live.result.now) x (points_of qs) (bends_of bs)) c.as_slice-points.ensures.value c.in_ok-bends_at.ensures.bends) in
     let s : IsFirstSpecial (walls_of f.live.items) ps o =
     subst (λ (ws : List CodeWall). IsFirstSpecial (walls_of ws) ps o) c.as_slice-live.ensures.value
     (subst (λ (qs : List CodePoint). IsFirstSpecial (walls_of c.as_slice-live.result.now) qs o) c.as_slice-points.ensures.value c.first_special.ensures) in
-    rw (← c.self.view_is) (found (walls f.diagram.now.diagram) f.limit f.live.items c.self.invariant p (vector_of d) x c.direction_of-d.ensures d.primitive c.args.most l ps far h bs o b s)
+    rw (← c.self.view_is) (found (walls f.diagram.now.diagram) f.limit f.live.items c.self.invariant.ready p (vector_of d) x c.direction_of-d.ensures d.primitive c.args.most l ps far h bs o b s)

@@ -12,5 +12,5 @@ pub returns : goal.returns
 returns c =
     let f = c.self.inside in
     rw (← c.self.view_is)
-    (on-live (walls f.diagram.now.diagram) f.limit f.live.items c.self.invariant (point_of c.args.p.now) c.is_on_some.result
+    (on-live (walls f.diagram.now.diagram) f.limit f.live.items c.self.invariant.ready (point_of c.args.p.now) c.is_on_some.result
     (subst (λ (ws : List CodeWall). IsTrue c.is_on_some.result ↔ HoldsSome (walls_of ws) (point_of c.args.p.now)) c.as_slice.ensures.value c.is_on_some.ensures))

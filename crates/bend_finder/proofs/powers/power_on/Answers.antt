@@ -6,7 +6,7 @@ use Rattle.trunc_series.specs.Capped.{IsMajorantOf}
 use Rattle.scatter_diagram.specs.Shown.{walls_of}
 use Rattle.bend_finder.specs.Powers.{functions_on}
 use Rattle.bend_finder.proofs.PowerMajorants.{product-near, product-others, walls-tame_all, majorant-power, product-keepable, functions-keepable}
-use Rattle.bend_finder.proofs.powers.power_at.Goals as goal
+use Rattle.bend_finder.proofs.powers.power_on.Goals as goal
 
 pub power-requires-clause-near : goal.power-requires-clause-near
 power-requires-clause-near c =
@@ -23,8 +23,8 @@ returns c =
     let n = c.args.most in
     let m = c.in_ok-product.product in
     let p = c.in_ok-power.power in
+    let i = c.args.times in
     let ls = live_on (walls_of c.args.walls.now) (point_of c.args.q.now) in
     let fs = functions_on (walls_of c.args.walls.now) (point_of c.args.q.now) in
-    let h : IsMajorantOf p n (pow n m.terms c.across.result) = subst (λ (k : ℕ). IsMajorantOf p k (pow k m.terms c.across.result)) c.in_ok-product.ensures.order c.in_ok-power.ensures in
-    subst (λ (k : ℕ). IsMajorantOf p n (pow n (product n fs) k)) c.across.ensures
-    (majorant-power n c.across.result (product n fs) m p (product-keepable n fs (functions-keepable ls)) c.in_ok-product.ensures h)
+    let h : IsMajorantOf p n (pow n m.terms i) = subst (λ (k : ℕ). IsMajorantOf p k (pow k m.terms i)) c.in_ok-product.ensures.order c.in_ok-power.ensures in
+    majorant-power n i (product n fs) m p (product-keepable n fs (functions-keepable ls)) c.in_ok-product.ensures h
