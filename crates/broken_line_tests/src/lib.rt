@@ -8,4 +8,6 @@ mod reaching;
 #[cfg(test)]
 mod tails;
 #[cfg(test)]
+mod thetas;
+#[cfg(test)]
 mod values;

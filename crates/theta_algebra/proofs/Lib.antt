@@ -1,0 +1,2 @@
+pub mod LightTails
+pub mod TracedSums
