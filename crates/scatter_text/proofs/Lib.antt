@@ -35,3 +35,6 @@ pub mod InitialLines
 pub mod SortedRows
 pub mod WallRows
 pub mod PrintedWalls
+pub mod AnswerLines
+pub mod AnswerTexts
+pub mod AskQueries

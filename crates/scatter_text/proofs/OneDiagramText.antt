@@ -38,7 +38,7 @@ walls-one vars (row ∷ rows) (w ∷ ws) (u ∷ us) h a b =
 
 -- ---- texts
 
-coordinate-one : (x w : ℤ) (q r : Coordinate) → pos 1 ≤ℤ w → IsRatioOf x w q → IsRatioOf x w r → q ≡ r
+pub coordinate-one : (x w : ℤ) (q r : Coordinate) → pos 1 ≤ℤ w → IsRatioOf x w q → IsRatioOf x w r → q ≡ r
 coordinate-one x w q r h a b =
     let n = lowest-unique q.num q.den r.num r.den a.coordinate b.coordinate (across q.num q.den r.num r.den x w h a.same b.same) in
     λ i. record { num = n.num i; den = n.den i }

@@ -24,12 +24,12 @@ pub join-spaced : (word : List ℕ) (ts : List (List ℕ)) → join_with_byte 32
 join-spaced word [] = sym (append-nil word)
 join-spaced word (t ∷ ts) = ap (λ (ys : List ℕ). word ++ (32 ∷ ys)) (join-spaced t ts)
 
-spaced-map : (f : ℕ → List ℕ) (ns : List ℕ) → spaced (map f ns) ≡ flat_map (λ n. 32 ∷ f n) ns
+pub spaced-map : (f : ℕ → List ℕ) (ns : List ℕ) → spaced (map f ns) ≡ flat_map (λ n. 32 ∷ f n) ns
 spaced-map f [] = refl
 spaced-map f (n ∷ ns) = ap (λ (ys : List ℕ). 32 ∷ f n ++ ys) (spaced-map f ns)
 
 -- a list of eight is its elements
-eight : (ps : List ℕ) → length ps ≡ 8 → slice_index ps 0 ∷ slice_index ps 1 ∷ slice_index ps 2 ∷ slice_index ps 3 ∷ slice_index ps 4 ∷ slice_index ps 5 ∷ slice_index ps 6 ∷ slice_index ps 7 ∷ [] ≡ ps
+pub eight : (ps : List ℕ) → length ps ≡ 8 → slice_index ps 0 ∷ slice_index ps 1 ∷ slice_index ps 2 ∷ slice_index ps 3 ∷ slice_index ps 4 ∷ slice_index ps 5 ∷ slice_index ps 6 ∷ slice_index ps 7 ∷ [] ≡ ps
 eight [] l = absurd (omega (arith, l))
 eight (a ∷ []) l = absurd (omega (arith, l))
 eight (a ∷ b ∷ []) l = absurd (omega (arith, l))

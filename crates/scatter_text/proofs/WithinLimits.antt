@@ -48,7 +48,7 @@ not-less m n e = grind (arith, nat_tests)
 pub vars-few : (z : ℤ) → has_many_vars z ≡ false → nat_abs z ≤ 8
 vars-few z e = not-less 8 (nat_abs z) e
 
-exponent-small : (j d : ℤ) → is_exponent_large j d ≡ false → nat_abs j * nat_abs d ≤ 64
+pub exponent-small : (j d : ℤ) → is_exponent_large j d ≡ false → nat_abs j * nat_abs d ≤ 64
 unfolding is_exponent_large
 exponent-small j d e = not-less 64 (nat_abs j * nat_abs d) e
 

@@ -7,7 +7,9 @@ use Rattle.scattering.specs.Stops.{StopCause}
 use Rattle.scatter_text.specs.declared.file.LineRow.{LineRow}
 use Rattle.scatter_text.specs.Values.{AreLineRows}
 use Rattle.scatter_text.specs.DiagramText.{IsDiagramText}
+use Rattle.theta_algebra.specs.declared.query.Answer.{Answer}
 use Rattle.scatter_text.specs.GivenWalls.{IsWallOf}
+use Rattle.scatter_text.specs.AnswersText.{IsAnswersText}
 
 -- the lines of a file stand for one list of walls
 abbrev pub WallsAreOne : Type 0
@@ -17,3 +19,8 @@ WallsAreOne = (vars : ℤ) (rows : List LineRow) (ws us : List Wall) → AreLine
 abbrev pub DiagramTextIsOne : Type 0
 DiagramTextIsOne = (vars order n : ℕ) (e : Diagram) (stop : Option (ℕ × StopCause)) (text other : List ℕ) → Every (IsWall n) (walls e)
     → IsDiagramText vars order e stop text → IsDiagramText vars order e stop other → text ≡ other
+
+-- answers have one text
+abbrev pub AnswersTextIsOne : Type 0
+AnswersTextIsOne = (vars published : ℕ) (stop : Option (ℕ × StopCause)) (answers : List Answer) (text other : List ℕ)
+    → IsAnswersText vars published stop answers text → IsAnswersText vars published stop answers other → text ≡ other

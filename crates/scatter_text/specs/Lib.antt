@@ -9,3 +9,5 @@ pub mod GivenWalls
 pub mod Laws
 pub mod LimitedLines
 pub mod PrintedRows
+pub mod GivenQueries
+pub mod AnswersText

@@ -1,7 +1,7 @@
 -- The limits of what is accepted, in the order in which they are tested.
 use Rattle.std.specs.Prelude.{◌≡◌, ℕ, zero, suc, ◌+◌, ◌*◌, ◌/◌, ◌%◌, ◌==◌, nat_lt, Bool, true, false, ◌||◌, List, [], ◌∷◌, length, Option, Some, None, option_map, find, nat_abs, ℤ, pos, codes}
 use Rattle.std.specs.List.{list_any}
-use Rattle.limits.specs.Limits.{highest_order, largest_coefficient, largest_coordinate, largest_given_exponent, largest_power, most_asks, most_lines, most_monomials, most_terms, most_variables}
+use Rattle.limits.specs.Limits.{highest_order, largest_coefficient, largest_coordinate, largest_given_exponent, largest_power, most_asks, most_lines, most_monomials, most_readers, most_terms, most_variables}
 use Rattle.scatter_text.specs.declared.file.Coordinate.{Coordinate}
 use Rattle.scatter_text.specs.declared.file.TermRow.{TermRow}
 use Rattle.scatter_text.specs.declared.file.LineRow.{LineRow}
@@ -126,6 +126,13 @@ pub record IsWithinLimits (file : TextFile) : Type 0 where
   pub exponents : list_any has_large_exponent file.lines ≡ false
   pub powers : list_any has_large_power file.lines ≡ false
   pub points : list_any (λ l. is_far l.x l.y) file.lines ≡ false
+
+-- and of its asks, by whichever readers there may be
+pub record AreAsksWithinLimits (file : TextFile) : Type 0 where
+  pub points : list_any (λ a. is_far a.x a.y) file.asks ≡ false
+  pub exponents : list_any has_large_ask_exponent file.asks ≡ false
+  pub readers : list_any (has_high_reader most_readers) file.asks ≡ false
+  pub least : list_any has_high_least file.asks ≡ false
 
 abbrev pub limit_word : LimitKind → List ℕ
 limit_word Bytes = codes "bytes"

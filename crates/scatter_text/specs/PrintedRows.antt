@@ -3,6 +3,7 @@
 --     row_order                how two rows stand
 --     AreAlong d rows f        f are the rows' terms, with z^d for x
 --     IsHeading                the heading of a wall
+--     IsRatioText              the spelling of x/w
 --     Continues, ContinuesSome, ContinuesRatio        by what a text is continued
 use Rattle.std.specs.Prelude.{◌≡◌, ℕ, cond, List, [], ◌∷◌, ◌++◌, map, ℤ, String, string_bytes}
 use Rattle.std.specs.declared.cmp.Ordering.{Ordering}
@@ -23,6 +24,10 @@ Continues old new piece = string_bytes new ≡ string_bytes old ++ piece
 -- the text is continued by such a piece
 abbrev pub ContinuesSome : {Y : Type 0} → String Y → String Y → (List ℕ → Type 0) → Type 0
 ContinuesSome old new P = (piece : List ℕ) × P piece × Continues old new piece
+
+-- x/w in lowest terms
+abbrev pub IsRatioText : ℤ → ℤ → List ℕ → Type 0
+IsRatioText x w text = (q : Coordinate) × IsRatioOf x w q × (text ≡ coordinate_text q)
 
 -- the text is continued by a space and x/w in lowest terms
 abbrev pub ContinuesRatio : {Y : Type 0} → String Y → String Y → ℤ → ℤ → Type 0

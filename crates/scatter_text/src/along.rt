@@ -16,7 +16,7 @@ use trunc_series::{Exp, Key, is_constant};
 
 /// The term c·t^P·z^(j·d) of the function of a wall in direction d, with P as `powers`.
 #[derive(Clone, Copy)]
-pub(crate) struct PrintedRow {
+pub struct PrintedRow {
     pub j: u32,
     pub powers: [u8; 8],
     pub c: i128,
@@ -104,7 +104,7 @@ fn sort(rows: &mut Vec<PrintedRow>)
 }
 
 /// The terms of the function other than the constant, by j and then by the powers.
-pub(crate) fn along(alloc: Global, wall: &Wall) -> Result<Vec<PrintedRow>, AllocError>
+pub fn rows_along(alloc: Global, wall: &Wall) -> Result<Vec<PrintedRow>, AllocError>
     ensures { IfOk result (λ rows. AreRows (wall_of wall.now) (map row_of rows.items)) }
 {
     let mut rows = terms_along(alloc, &wall.dir, wall.function.terms())?;

@@ -23,7 +23,7 @@ fn product(a: i64, b: i64) -> i128
 }
 
 /// The point (x, y).
-fn place(x: &Coordinate, y: &Coordinate) -> Point
+pub(crate) fn place(x: &Coordinate, y: &Coordinate) -> Point
     requires x { IsCoordinate x.now }
     requires y { IsCoordinate y.now }
     requires near { is_far x.now y.now ≡ false }

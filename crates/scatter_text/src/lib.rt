@@ -3,6 +3,7 @@
 #![tactic(auto)]
 
 mod along;
+mod answers;
 mod ask_list;
 mod fault;
 mod file;
@@ -14,17 +15,24 @@ mod line;
 mod number;
 mod open_line;
 mod printing;
+mod queries;
 mod reading;
 mod row;
 mod rows;
 mod stage;
 
+pub use along::{PrintedRow, rows_along};
+pub use answers::write_answers;
 pub use fault::{LimitKind, TextFault, TextKind};
 pub use file::{AskKind, AskRow, Coordinate, LineRow, TermRow, TextFile};
 pub use grammar::TextMode;
 pub use initial::initial_of;
 pub use laws::one_text;
 pub use limit_checks::check_limits;
-pub use printing::{push_closing, write_diagram};
+pub use number::{is_short, read_coordinate, read_number};
+pub use open_line::OpenLine;
+pub use printing::{cause_word, coordinate_text, push_closing, write_diagram};
+pub use queries::queries_of;
 pub use reading::{one_outcome, read_text};
 pub use rows::Rows;
+pub use stage::{is_primitive, is_term};

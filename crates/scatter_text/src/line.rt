@@ -5,7 +5,7 @@ ghost use Rattle.scatter_text.specs.Reading.{Say, AreBadTokens, IsFormOf, AreOfS
 
 use crate::fault::TextKind;
 use crate::grammar::{Keyword, Place, RowForm, Slot, TextMode};
-use crate::number::{coordinate, number};
+use crate::number::{read_coordinate, read_number};
 use crate::row::{Row, RowValue};
 use crate::rows::Rows;
 use std::alloc::{AllocError, AllocFailed, Global};
@@ -214,11 +214,11 @@ fn value_of(
 {
     match slot {
         Slot::Fixed(word) => Ok(Some(RowValue::Fixed(word))),
-        Slot::Number => match number(tokens[0]) {
+        Slot::Number => match read_number(tokens[0]) {
             Some(n) => Ok(Some(RowValue::Number(n))),
             None => Ok(None),
         },
-        Slot::Coordinate => match coordinate(tokens[0]) {
+        Slot::Coordinate => match read_coordinate(tokens[0]) {
             Some(c) => Ok(Some(RowValue::Coordinate(c))),
             None => Ok(None),
         },
@@ -236,7 +236,7 @@ fn numbers(alloc: Global, tokens: &[&[u8]]) -> Result<Option<Vec<i64>>, AllocErr
 {
     let mut values = Vec::with_capacity(alloc, tokens.len())?;
     for token in tokens {
-        match number(token) {
+        match read_number(token) {
             Some(n) => {
                 values.push(n)?;
             }

@@ -10,17 +10,17 @@ use frac_128::Fraction;
 const LONG: u128 = 1_000_000_000_000_000_000;
 
 /// The number that a token spells: `0`, or up to 18 digits of which the first isn't 0, after a `-` or none.
-pub fn number(token: &[u8]) -> Option<i64>
+pub fn read_number(token: &[u8]) -> Option<i64>
     ensures { MatchOption result (¬ IsNumberText token.now) (IsNumberOf token.now) }
 {
-    match coordinate(token) {
+    match read_coordinate(token) {
         Some(c) if c.den == 1 => Some(c.num),
         _ => None,
     }
 }
 
 /// The coordinate that a token spells: a number, or `P/Q` in lowest terms with Q at least 2.
-pub fn coordinate(token: &[u8]) -> Option<Coordinate>
+pub fn read_coordinate(token: &[u8]) -> Option<Coordinate>
     ensures { MatchOption result (¬ IsCoordinateText token.now) (IsCoordinateOf token.now) }
 {
     match Fraction::read(token) {
@@ -43,7 +43,7 @@ fn short(q: Fraction) -> Option<Coordinate>
 }
 
 /// Whether a number has at most 18 digits.
-fn is_short(n: i128) -> bool
+pub fn is_short(n: i128) -> bool
     ensures { IsTrue result ↔ IsShort n }
 {
     n.unsigned_abs() < LONG

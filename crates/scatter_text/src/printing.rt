@@ -1,5 +1,5 @@
 // The text of a completed diagram, piece by piece.
-ghost use Rattle.std.specs.Prelude.{◌≡◌, ◌≤◌, ◌∷◌, OnOk, IfOk, pos, ◌≤ℤ◌, flat_map, map, decimal, codes};
+ghost use Rattle.std.specs.Prelude.{◌≡◌, ◌≤◌, ◌∷◌, OnOk, IfOk, pos, ◌≤ℤ◌, flat_map, map, decimal, codes, string_bytes};
 ghost use Rattle.std.specs.Fmt.{signed_decimal};
 ghost use Rattle.limits.specs.Limits.{most_variables};
 ghost use Rattle.frac_128.specs.Text.{fraction_text};
@@ -7,17 +7,16 @@ ghost use Rattle.plane_geom.specs.Shown.{point_of, vector_of};
 ghost use Rattle.scatter_diagram.specs.Shown.{wall_of};
 ghost use Rattle.scatter_diagram.specs.Stopped.{cause_of, stop_of};
 ghost use Rattle.scatter_text.specs.DiagramText.{row_text, IsWallText, AreWallTexts, cause_word, closing_text, IsDiagramText};
-ghost use Rattle.scatter_text.specs.PrintedRows.{row_of, IsHeading, Continues, ContinuesSome, ContinuesRatio};
+ghost use Rattle.scatter_text.specs.PrintedRows.{row_of, IsHeading, IsRatioText, Continues, ContinuesSome, ContinuesRatio};
 
-use crate::along::{PrintedRow, along};
+use crate::along::{PrintedRow, rows_along};
 use frac_128::Fraction;
 use plane_geom::{Direction, Point};
 use scatter_diagram::{Diagram, StopCause, Wall};
 use std::alloc::{AllocError, Global};
-use std::str;
 
 /// Appends a space and the number.
-fn push_signed(text: &mut String, n: i128) -> Result<(), AllocError>
+pub(crate) fn push_signed(text: &mut String, n: i128) -> Result<(), AllocError>
     ensures { OnOk result (Continues text.old text.new (32 ∷ signed_decimal n)) }
 {
     write!(text, " {n}")
@@ -31,7 +30,7 @@ fn push_unsigned(text: &mut String, n: u32) -> Result<(), AllocError>
 }
 
 /// Appends a space and each number.
-fn push_powers(text: &mut String, powers: &[u8]) -> Result<(), AllocError>
+pub(crate) fn push_powers(text: &mut String, powers: &[u8]) -> Result<(), AllocError>
     ensures { OnOk result (Continues text.old text.new (flat_map (λ n. 32 ∷ decimal n) powers.now)) }
 {
     for power in powers {
@@ -64,24 +63,38 @@ fn push_rows(text: &mut String, rows: &[PrintedRow], vars: usize) -> Result<(), 
     Ok(())
 }
 
-/// Appends a space and `P`, or `P/Q` with Q at least 2.
-fn push_fraction(text: &mut String, alloc: Global, q: Fraction) -> Result<(), AllocError>
-    ensures { OnOk result (Continues text.old text.new (32 ∷ fraction_text q.num q.den)) }
+/// `P`, or `P/Q` with Q at least 2.
+fn fraction_text(alloc: Global, q: Fraction) -> Result<String, AllocError>
+    ensures { IfOk result (λ text. string_bytes text ≡ fraction_text q.num q.den) }
 {
     let bytes = q.print(alloc)?;
-    text.push_str(" ")?;
-    match str::from_utf8(bytes.as_slice()) {
-        Ok(spelled) => text.push_str(spelled),
+    match String::from_utf8(bytes) {
+        Ok(text) => Ok(text),
         Err(_) => unreachable!(),
     }
 }
 
+/// The spelling of x/w in lowest terms: `P`, or `P/Q` with Q at least 2.
+pub fn coordinate_text(alloc: Global, x: i64, w: i64) -> Result<String, AllocError>
+    requires { pos 1 ≤ℤ w }
+    ensures { IfOk result (λ text. IsRatioText x w (string_bytes text)) }
+{
+    fraction_text(alloc, Fraction::new(i128::from(x), i128::from(w)))
+}
+
 /// Appends a space and x/w in lowest terms.
-fn push_coordinate(text: &mut String, alloc: Global, x: i64, w: i64) -> Result<(), AllocError>
+pub(crate) fn push_coordinate(
+    text: &mut String,
+    alloc: Global,
+    x: i64,
+    w: i64,
+) -> Result<(), AllocError>
     requires { pos 1 ≤ℤ w }
     ensures { OnOk result (ContinuesRatio text.old text.new x w) }
 {
-    push_fraction(text, alloc, Fraction::new(i128::from(x), i128::from(w)))
+    let spelled = coordinate_text(alloc, x, w)?;
+    text.push_str(" ")?;
+    text.push_str(spelled.as_str())
 }
 
 /// Appends `WORD DX DY at X Y`.
@@ -116,7 +129,7 @@ fn push_wall(
     ensures { OnOk result (ContinuesSome text.old text.new
         (IsWallText word.now vars (wall_of wall.now))) }
 {
-    let rows = along(alloc, wall)?;
+    let rows = rows_along(alloc, wall)?;
     push_heading(text, alloc, word, &wall.dir, &wall.at)?;
     push_rows(text, rows.as_slice(), vars)
 }
@@ -145,7 +158,8 @@ fn push_rays(text: &mut String, alloc: Global, e: &Diagram, vars: usize) -> Resu
     Ok(())
 }
 
-fn word_of(cause: StopCause) -> &'static str
+/// The word of a cause.
+pub fn cause_word(cause: StopCause) -> &'static str
     ensures { result.now ≡ cause_word (cause_of cause) }
 {
     match cause {
@@ -162,7 +176,7 @@ pub fn push_closing(text: &mut String, stop: Option<(u32, StopCause)>) -> Result
     match stop {
         None => text.push_str("end\n"),
         Some((order, cause)) => {
-            let word = word_of(cause);
+            let word = cause_word(cause);
             write!(text, "stopped {order} {word}\n")
         }
     }

@@ -221,13 +221,14 @@ fn with_line(mut lines: Vec<LineRow>, line: LineRow) -> Result<Vec<LineRow>, All
 }
 
 /// Whether a direction is primitive.
-fn is_primitive(dx: i64, dy: i64) -> bool
+pub fn is_primitive(dx: i64, dy: i64) -> bool
     ensures { IsTrue result ↔ AreCoprime (nat_abs dx) (nat_abs dy) }
 {
     gcd(dx.unsigned_abs() as u128, dy.unsigned_abs() as u128) == 1
 }
 
-fn is_term(term: &TermRow) -> bool
+/// Whether the rules on values hold of a term by itself.
+pub fn is_term(term: &TermRow) -> bool
     ensures { IsTrue result ↔ IsTermRow term.now }
 {
     let powers = term.powers.as_slice();

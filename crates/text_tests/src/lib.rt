@@ -1,7 +1,9 @@
-//! Tests of scatter_text at its public calls: worked texts with their faults, values, asks, limits, lines and diagrams, taken
+//! Tests of scatter_text at its public calls: worked texts with their faults, values, asks, answers, limits, lines and diagrams, taken
 //! from outside.
 #![tactic(auto)]
 
+#[cfg(test)]
+mod answers;
 #[cfg(test)]
 mod ask_limits;
 #[cfg(test)]

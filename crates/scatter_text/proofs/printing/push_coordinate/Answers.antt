@@ -1,16 +1,19 @@
--- The fraction is the coordinate.
-use Rattle.std.proofs.Common.{rules, ◌∙◌}
-use mir.Syntax.{w64, w128}
+-- A space and the spelling are appended.
+use Rattle.std.proofs.Common.{◌∙◌, ap, ◌++◌, [], ◌∷◌, List, ℕ, append_assoc}
+use Rattle.std.specs.Prelude.{string_bytes}
+use mir.Syntax.{w64}
 use Rattle.std.proofs.lemmas.Int.{to_z-of_z}
 use Rattle.std.proofs.lemmas.Result.{on_ok_weaker}
-use Rattle.scatter_text.proofs.Fractions.{coordinate_of, lowest-ratio}
+use Rattle.scatter_text.specs.Grammar.{coordinate_text}
+use Rattle.scatter_text.proofs.Fractions.{ratio-along}
+use Rattle.scatter_text.proofs.TokenLines.{ends}
 use Rattle.scatter_text.proofs.printing.push_coordinate.Goals as goal
 
 pub returns : goal.returns
 returns c =
-    let q = c.new.result in
-    let x = to_z-of_z w128 c.from.result (search rules) ∙ c.from.ensures ∙ to_z-of_z w64 c.args.x c.ranges.x in
-    let w = to_z-of_z w128 c.from-2.result (search rules) ∙ c.from-2.ensures ∙ to_z-of_z w64 c.args.w c.ranges.w in
-    on_ok_weaker c.push_fraction.result
-    (λ e. (coordinate_of q.num q.den, lowest-ratio q.num q.den c.args.x c.args.w _ _ q.lowest x w c.new.ensures, e))
-    c.push_fraction.ensures
+    let spelled = c.in_ok-spelled.ensures in
+    let x = to_z-of_z w64 c.args.x c.ranges.x in
+    let w = to_z-of_z w64 c.args.w c.ranges.w in
+    on_ok_weaker c.push_str-2.result (λ e. (spelled.0, ratio-along _ c.args.x _ c.args.w spelled.0 x w spelled.1, e))
+    (ends _ (string_bytes c.push_str.new.self) _ _ _ c.push_str-2.ensures.bytes
+    (ap (λ (t : List ℕ). string_bytes c.push_str.new.self ++ t) (c.as_str.ensures.value ∙ spelled.2) ∙ ap (λ (t : List ℕ). t ++ coordinate_text spelled.0) c.in_ok-push_str.ensures.bytes ∙ append_assoc (string_bytes c.args.text.now) (32 ∷ []) _))

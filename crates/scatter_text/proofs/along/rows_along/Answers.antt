@@ -6,7 +6,7 @@ use Rattle.plane_geom.specs.Shown.{vector_of}
 use Rattle.scatter_diagram.specs.Shown.{wall_of}
 use Rattle.scatter_text.specs.PrintedRows.{row_of, AreAlong}
 use Rattle.scatter_text.proofs.WallRows.{multiples, are-rows}
-use Rattle.scatter_text.proofs.along.along.Goals as goal
+use Rattle.scatter_text.proofs.along.rows_along.Goals as goal
 
 pub terms_along-requires : goal.terms_along-requires
 terms_along-requires c =

@@ -1,0 +1,113 @@
+-- The asks of a file within the limits, and the queries that they stand for.
+use Rattle.std.proofs.Common.{◌≡◌, ℕ, refl, sym, subst, ◌∙◌, ◌<◌, ◌≤◌, ◌*◌, ◌+◌, false, ◌||◌, List, [], ◌∷◌, ◌++◌, length, take, get_or, arith}
+use Rattle.std.specs.Prelude.{ℤ, pos, nat_abs, nat_lt, Option, Some, None}
+use Rattle.std.specs.List.{AllZip, list_any}
+use Rattle.std.proofs.lemmas.List.{take_more, take_all}
+use Rattle.std.proofs.lemmas.Int.{ints}
+use Rattle.std.proofs.lemmas.Bool.Decides.{nat_tests}
+use Rattle.scattering.proofs.Lists.{or-false}
+use Rattle.theta_algebra.specs.declared.query.Query.{Query}
+use Rattle.scatter_text.specs.declared.file.AskKind.{AskKind}
+use Rattle.scatter_text.specs.declared.file.AskKind.TheVariants.{Theta, Product}
+use Rattle.scatter_text.specs.declared.file.LineRow.{LineRow}
+use Rattle.scatter_text.specs.declared.file.AskRow.{AskRow}
+use Rattle.scatter_text.specs.declared.file.TextFile.{TextFile}
+use Rattle.scatter_text.specs.Limits.{AreAsksWithinLimits, first_limit, limits_by, is_far, is_exponent_large, is_kind_large, is_order_high, has_large_ask_exponent, has_high_reader, has_high_least}
+use Rattle.scatter_text.specs.GivenQueries.{IsGivenSmall, IsKindSmall, IsOrderSmall, IsLimitedAsk, IsReadersQueryOf}
+use Rattle.scatter_text.proofs.WithinLimits.{any-none, all-pass, not-less, exponent-small}
+use Rattle.scatter_text.proofs.InitialLines.{zip-push}
+
+-- ---- one of the asks
+
+small : (a : ℤ) → is_exponent_large (pos 1) a ≡ false → IsGivenSmall a
+small a e = let h : nat_abs (pos 1) * nat_abs a ≤ 64 = exponent-small (pos 1) a e in omega (arith, h)
+
+kind-small : (kind : AskKind) → is_kind_large kind ≡ false → IsKindSmall kind
+kind-small (Theta a b) e =
+    let p = or-false (is_exponent_large (pos 1) a) (is_exponent_large (pos 1) b) e in
+    (small a p.0, small b p.1)
+kind-small (Product a b c d) e =
+    let la = is_exponent_large (pos 1) a in
+    let lb = is_exponent_large (pos 1) b in
+    let lc = is_exponent_large (pos 1) c in
+    let p = or-false (la || lb || lc) (is_exponent_large (pos 1) d) e in
+    let q = or-false (la || lb) lc p.0 in
+    let r = or-false la lb q.0 in
+    (small a r.0, small b r.1, small c q.1, small d p.1)
+
+order-small : (least : Option ℤ) → is_order_high least ≡ false → IsOrderSmall least
+order-small None e order is = absurd (cc)
+order-small (Some n) e order is =
+    let h : nat_abs n ≤ 24 = not-less 24 (nat_abs n) e in
+    let same : n ≡ order = cc in
+    subst (λ (m : ℤ). nat_abs m ≤ 24) same h
+
+ask-kind : (a : AskRow) → has_large_ask_exponent a ≡ false → IsKindSmall a.kind
+unfolding has_large_ask_exponent
+ask-kind a e = kind-small a.kind e
+
+ask-least : (a : AskRow) → has_high_least a ≡ false → IsOrderSmall a.least
+unfolding has_high_least
+ask-least a e = order-small a.least e
+
+ask-reader : (readers : ℕ) (a : AskRow) → has_high_reader readers a ≡ false → nat_abs a.reader ≤ readers
+unfolding has_high_reader
+ask-reader readers a e = not-less readers (nat_abs a.reader) e
+
+pub limited-ask : (file : TextFile) → AreAsksWithinLimits file → (k : ℕ) (d : AskRow) → k < length file.asks → IsLimitedAsk (get_or file.asks k d)
+limited-ask file h k d lt =
+    let a = get_or file.asks k d in
+    record {
+      valid = file.valid_asks k d lt;
+      kind = ask-kind a (any-none has_large_ask_exponent file.asks h.exponents k d lt);
+      least = ask-least a (any-none has_high_least file.asks h.least k d lt);
+      reader = ask-reader 8 a (any-none (has_high_reader 8) file.asks h.readers k d lt);
+      near = any-none (λ (b : AskRow). is_far b.x b.y) file.asks h.points k d lt;
+    }
+
+-- what a list has where it ends
+abbrev pub no_ask : AskRow
+no_ask = record { reader = pos 0; kind = Theta (pos 0) (pos 0); x = record { num = pos 0; den = pos 0 }; y = record { num = pos 0; den = pos 0 }; least = None }
+
+-- ---- those so far
+
+pub queries-more : (rows : List AskRow) (queries : List (ℕ × Query)) (i : ℕ) (q : ℕ × Query) → i < length rows
+    → AllZip IsReadersQueryOf (take i rows) queries → IsReadersQueryOf (get_or rows i no_ask) q → AllZip IsReadersQueryOf (take (i + 1) rows) (queries ++ q ∷ [])
+queries-more rows queries i q l h k =
+    subst (λ (xs : List AskRow). AllZip IsReadersQueryOf xs (queries ++ q ∷ [])) (sym (take_more rows i no_ask l))
+    (zip-push IsReadersQueryOf (take i rows) queries (get_or rows i no_ask) q h k)
+
+-- all of them
+pub all-queries : (rows rows' : List AskRow) (queries : List (ℕ × Query)) (i : ℕ) → rows' ≡ rows → length rows' ≤ i → AllZip IsReadersQueryOf (take i rows') queries → AllZip IsReadersQueryOf rows queries
+all-queries rows rows' queries i e l h = subst (λ (xs : List AskRow). AllZip IsReadersQueryOf xs queries) (take_all i rows' l ∙ e) h
+
+-- a reader is counted from 1
+pub reader-same : (a : AskRow) → IsLimitedAsk a → a.reader ≡ pos (nat_abs a.reader)
+reader-same a h = let positive = h.valid.values.reader in omega (arith, ints, positive)
+
+-- ---- a file that passes no limit
+
+not-above : (n k : ℕ) → k ≤ n → nat_lt n k ≡ false
+not-above n k h = grind (arith, nat_tests)
+
+reader-low : (m n : ℕ) (a : AskRow) → m ≤ n → has_high_reader m a ≡ false → has_high_reader n a ≡ false
+unfolding has_high_reader
+reader-low m n a h e =
+    let k : nat_abs a.reader ≤ m = not-less m (nat_abs a.reader) e in
+    not-above n (nat_abs a.reader) (omega (arith, k, h))
+
+readers-low : (m n : ℕ) (rows : List AskRow) → m ≤ n → list_any (has_high_reader m) rows ≡ false → list_any (has_high_reader n) rows ≡ false
+readers-low m n [] h e = refl
+readers-low m n (a ∷ rows) h e =
+    let p = or-false (has_high_reader m a) (list_any (has_high_reader m) rows) e in
+    rw (reader-low m n a h p.0, readers-low m n rows h p.1) refl
+
+pub asks-within-first-limit : (file : TextFile) (order readers : ℕ) → readers ≤ 8 → first_limit file order readers ≡ None → AreAsksWithinLimits file
+asks-within-first-limit file order readers few e =
+    let all = all-pass (limits_by file.vars file.lines file.asks order readers) e in
+    record {
+      points = (or-false (list_any (λ (l : LineRow). is_far l.x l.y) file.lines) (list_any (λ (a : AskRow). is_far a.x a.y) file.asks) all.1.1.1.1.1.1.1.0).1;
+      exponents = all.1.1.1.1.1.1.1.1.1.0;
+      readers = readers-low readers 8 file.asks few all.1.1.1.1.1.1.1.1.1.1.0;
+      least = all.1.1.1.1.1.1.1.1.1.1.1.0;
+    }

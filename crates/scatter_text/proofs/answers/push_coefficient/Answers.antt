@@ -1,0 +1,17 @@
+-- The pieces make up the line of the term.
+use Rattle.std.proofs.Common.{rules, [], ◌∷◌}
+use Rattle.std.specs.Prelude.{string_bytes}
+use mir.Syntax.{w128}
+use Rattle.std.proofs.lemmas.Int.{to_z-of_z}
+use Rattle.scattering.specs.Series.{Term}
+use Rattle.trunc_series.specs.Shown.{key_of}
+use Rattle.scatter_text.proofs.TokenLines.{ends}
+use Rattle.scatter_text.proofs.AnswerLines.{powers_written}
+use Rattle.scatter_text.proofs.answers.push_coefficient.Goals as goal
+
+pub returns : goal.returns
+returns c =
+    let t : Term = (key_of c.args.key.now, c.args.c) in
+    ends _ (string_bytes c.push_first_powers.new.text) _ (10 ∷ []) _ c.push_str-2.ensures.bytes
+    (powers_written _ _ _ _ _ _ t (to_z-of_z w128 t.1 (search rules))
+    c.in_ok-push_str.ensures.bytes c.in_ok-push_signed.ensures c.in_ok-push_first_powers.ensures)
