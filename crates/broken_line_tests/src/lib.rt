@@ -4,6 +4,8 @@
 #[cfg(test)]
 mod ahead;
 #[cfg(test)]
+mod products;
+#[cfg(test)]
 mod reaching;
 #[cfg(test)]
 mod tails;

@@ -47,7 +47,7 @@ pub(crate) fn one_line(alloc: Global) -> Result<Diagram, Fail>
 }
 
 // The same line with 1 + 2^125·t1·x.
-fn heavy_line(alloc: Global) -> Result<Diagram, Fail>
+pub(crate) fn heavy_line(alloc: Global) -> Result<Diagram, Fail>
     ensures { IfOk result (λ e. e.order ≡ 1) }
 {
     let mut lines = Vec::new(alloc);

@@ -1,2 +1,11 @@
 pub mod LightTails
 pub mod TracedSums
+pub mod StepLaws
+pub mod TakenTerms
+pub mod FamilyParts
+pub mod TakenThetas
+pub mod BegunProducts
+pub mod GivenWalls
+pub mod Stepping
+pub mod WholeProducts
+pub mod FamilyRuns

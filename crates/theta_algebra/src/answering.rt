@@ -1,0 +1,54 @@
+// Answers to queries.
+
+ghost use Rattle.std.specs.Prelude.{◌≡◌};
+ghost use Rattle.scattering.specs.Wall.{walls};
+ghost use Rattle.plane_geom.specs.Shown.{point_of};
+ghost use Rattle.theta_algebra.specs.Answering.{IsKind, IsQuery, is_early, IsResult, IsAnswer};
+
+use crate::product::theta_product;
+use crate::query::{Answer, Query, QueryKind, Reply};
+use crate::thetas::theta;
+use broken_lines::AskFault;
+use plane_geom::Point;
+use scatter_diagram::Diagram;
+use std::alloc::Global;
+
+/// Whether a later order is wanted.
+fn is_early(order: u32, least: Option<u32>) -> bool
+    ensures { result ≡ is_early order least }
+{
+    match least {
+        Some(least) => order < least,
+        None => false,
+    }
+}
+
+/// What is asked for at a point, in the diagram's order.
+fn reply(alloc: Global, e: &Diagram, kind: &QueryKind, at: &Point) -> Result<Reply, AskFault>
+    requires { IsKind kind.now }
+    ensures { IsResult (walls e.now.diagram) e.now.order kind.now (point_of at.now) result }
+{
+    let order = e.order();
+    match *kind {
+        QueryKind::Theta(m) => Ok(Reply::Series(theta(alloc, e, m, at, order)?)),
+        QueryKind::Product(p, q) => {
+            let family = theta_product(alloc, e, p, q, at, order)?;
+            Ok(Reply::Family(family))
+        }
+    }
+}
+
+/// The answer to a query in a diagram, at the diagram's order: the theta function, the family of a product, or the
+/// first fault. Where the query wants a later order, the fault is `NotYet` with the diagram's order.
+pub fn answer(alloc: Global, e: &Diagram, query: &Query) -> Answer
+    requires { IsQuery query.now }
+    ensures { IsAnswer (walls e.now.diagram) e.now.order query.now result }
+{
+    let order = e.order();
+    let result = if is_early(order, query.least) {
+        Err(AskFault::NotYet { newest: order })
+    } else {
+        reply(alloc, e, &query.kind, &query.at)
+    };
+    Answer { order, result }
+}
