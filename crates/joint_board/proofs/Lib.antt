@@ -7,3 +7,4 @@ pub mod Joining
 pub mod Machine
 pub mod Gathered
 pub mod Draws
+pub mod Found

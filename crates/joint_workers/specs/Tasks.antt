@@ -2,7 +2,8 @@
 --     diagram_of c            the diagram whose active points they are
 --     IsCorrected e n ps r        r is a task, its point and the correction of degree n there, a point of a weight of at most 2^126
 --     IsFoundBy e n ps s r    r is what the worker of the seat s found, or what stopped it
-use Rattle.std.specs.Prelude.{◌≡◌, ℕ, ◌≤◌, List, [], ◌∷◌, All, IfOk, IfErr, Result, Some, slice_get}
+use Rattle.std.specs.Prelude.{◌≡◌, ℕ, ◌≤◌, List, All, IfOk, IfErr, Result, Some, slice_get}
+use Rattle.std.specs.List.{AllZip}
 use Rattle.limits.specs.Limits.{largest_weight}
 use Rattle.scattering.specs.Wall.{walls}
 use Rattle.scattering.specs.LocalProduct.{weight}
@@ -37,7 +38,4 @@ IsFoundBy e n ps s r = IfOk r (AreFoundBy e n ps s) × IfErr r (IsStoppedByPoint
 
 -- of each seat
 abbrev pub AreAllFound : SeenDiagram → ℕ → List CodePoint → List SeenSeat → List (Result (SeenKept Corrected) Stop) → Type 0
-AreAllFound e n ps [] [] = Unit {0}
-AreAllFound e n ps [] (r ∷ rs) = ⊥
-AreAllFound e n ps (s ∷ ss) [] = ⊥
-AreAllFound e n ps (s ∷ ss) (r ∷ rs) = IsFoundBy e n ps s r × AreAllFound e n ps ss rs
+AreAllFound e n ps seats found = AllZip (IsFoundBy e n ps) seats found
