@@ -4,6 +4,14 @@
 #[cfg(test)]
 mod ahead;
 #[cfg(test)]
+mod algebras;
+#[cfg(test)]
+mod answers;
+#[cfg(test)]
+mod chambers;
+#[cfg(test)]
+mod faults;
+#[cfg(test)]
 mod products;
 #[cfg(test)]
 mod reaching;

@@ -13,20 +13,20 @@ use theta_algebra::{theta, theta_product};
 use trunc_series::{Exp, Key, Series};
 
 /// t1
-const T1: Key = Key {
+pub(crate) const T1: Key = Key {
     exp: Exp { a: 0, b: 0 },
     powers: [1, 0, 0, 0, 0, 0, 0, 0],
 };
 
 /// t1·t2
-const T1T2: Key = Key {
+pub(crate) const T1T2: Key = Key {
     exp: Exp { a: 0, b: 0 },
     powers: [1, 1, 0, 0, 0, 0, 0, 0],
 };
 
-// Whether a part of a family is the series of this order at r with one term, of the coefficient 1.
-fn is_part(part: &(Exp, Series), r: Exp, order: u32, key: Key) -> bool {
-    part.0 == r && part.1.order() == order && part.1.terms() == [(key, 1)].as_slice()
+/// Whether a part of a family is the series of this order at r with one term.
+pub(crate) fn is_part(part: &(Exp, Series), r: Exp, order: u32, key: Key, c: i128) -> bool {
+    part.0 == r && part.1.order() == order && part.1.terms() == [(key, c)].as_slice()
 }
 
 // Whether the thetas of (-1, 0) and (0, -1) among the two lines multiply to that of (-1, -1) and t1·t2.
@@ -36,7 +36,7 @@ fn meets_across_lines(alloc: Global) -> Result<bool, Fail> {
     let [first, second] = family.as_slice() else {
         return Ok(false);
     };
-    Ok(is_part(first, exp(-1, -1), 2, ONE) && is_part(second, exp(0, 0), 2, T1T2))
+    Ok(is_part(first, exp(-1, -1), 2, ONE, 1) && is_part(second, exp(0, 0), 2, T1T2, 1))
 }
 
 // Whether the thetas of (0, 1) and (0, -1) below the one line multiply to 1 and t1 times that of (1, 0).
@@ -46,7 +46,7 @@ fn meets_across_line(alloc: Global) -> Result<bool, Fail> {
     let [first, second] = family.as_slice() else {
         return Ok(false);
     };
-    Ok(is_part(first, exp(0, 0), 1, ONE) && is_part(second, exp(1, 0), 1, T1))
+    Ok(is_part(first, exp(0, 0), 1, ONE, 1) && is_part(second, exp(1, 0), 1, T1, 1))
 }
 
 // Whether the square of the theta of (0, 1) below the one line is that of (0, 2).
@@ -56,7 +56,7 @@ fn is_square(alloc: Global) -> Result<bool, Fail> {
     let [only] = family.as_slice() else {
         return Ok(false);
     };
-    Ok(is_part(only, exp(0, 2), 1, ONE))
+    Ok(is_part(only, exp(0, 2), 1, ONE, 1))
 }
 
 #[test]

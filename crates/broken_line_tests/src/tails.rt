@@ -178,12 +178,12 @@ fn limits_are_kept(rt: HostRuntime) -> Result<(), Fail> {
     Ok(())
 }
 
-// Sixteen lines along (1, 0), one below another, each with 1 + t1·x.
-fn parallel_lines(alloc: Global) -> Result<Vec<Wall>, Fail>
+/// So many lines along (1, 0), one below another, each with 1 + t1·x.
+pub(crate) fn parallel_lines(alloc: Global, count: u8) -> Result<Vec<Wall>, Fail>
     ensures { IfOk result (λ ws. AreLines highest_order ws.items) }
 {
     let mut lines = Vec::new(alloc);
-    for i in 0..16 {
+    for i in 0..count {
         let at = place(0, -(i as i128))?;
         let function = [(ONE, 1), (X, 1)];
         let order = HIGHEST_ORDER;
@@ -192,9 +192,9 @@ fn parallel_lines(alloc: Global) -> Result<Vec<Wall>, Fail>
     Ok(lines)
 }
 
-// Whether they have too many tails.
+// Whether sixteen of them have too many tails.
 fn has_too_many(alloc: Global) -> Result<bool, Fail> {
-    let lines = parallel_lines(alloc)?;
+    let lines = parallel_lines(alloc, 16)?;
     let e = Diagram::from_walls(alloc, HIGHEST_ORDER, lines, Vec::new(alloc))?;
     let fault = tails(alloc, &e, exp(0, -1), &place(0, 1)?, HIGHEST_ORDER).err();
     Ok(fault == Some(AskFault::TooManyTails))

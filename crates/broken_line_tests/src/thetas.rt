@@ -12,8 +12,8 @@ use std::test::Fail;
 use theta_algebra::{Answer, Reply, theta};
 use trunc_series::{Exp, Key, Series};
 
-// t1^i·t2^j·z^(a, b)
-const fn monomial(i: u8, j: u8, a: i32, b: i32) -> Key {
+/// t1^i·t2^j·z^(a, b)
+pub(crate) const fn monomial(i: u8, j: u8, a: i32, b: i32) -> Key {
     Key {
         exp: Exp { a, b },
         powers: [i, j, 0, 0, 0, 0, 0, 0],

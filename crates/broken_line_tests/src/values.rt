@@ -48,7 +48,7 @@ fn minus_line(alloc: Global) -> Result<Diagram, Fail>
 }
 
 // The lines through (0, 0) along (1, 0) with 1 + t1·x, and along (-1, 0) with 1 + t2·x^-1.
-fn opposite_lines(alloc: Global) -> Result<Diagram, Fail>
+pub(crate) fn opposite_lines(alloc: Global) -> Result<Diagram, Fail>
     ensures { IfOk result (λ e. e.order ≡ 2) }
 {
     let mut lines = Vec::new(alloc);

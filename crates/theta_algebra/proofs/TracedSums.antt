@@ -176,7 +176,7 @@ exact-sum n g f r o low small s sorted = exact n r g o kept-as (λ x. most (smal
 pub theta-of-sum : (ws : List Wall) (b k : ℕ) (m : Exp) (q : Point) (ts : List CodeTail) (w : ℕ) (s : Seen) → Every (IsWall k) ws → IsPoint q → IsAskFault ws b m q None
     → exp_eq m origin ≡ false → AreAllTails ws b m q (seen_tails ts) w → IsSeriesOf s b (traced_sum ws b m ts) → IsThetaOf ws b m q s
 theta-of-sum ws b k m q ts w s walls point free moves h i =
-    (theta-same ws b m q s.terms (traced_sum ws b m ts) i.same (theta-of-tails ws b k m q walls point free (plain_tails (seen_tails ts)) moves h.lists), i.order)
+    (theta-same ws b m q s.terms (traced_sum ws b m ts) i.same (theta-of-tails ws b k m q walls point free (plain_tails (seen_tails ts)) moves h.lists), i.order, i.series)
 
 pub moving-tails : (ws : List Wall) (b : ℕ) (m : Exp) (q : Point) (t : Traced) → exp_eq m origin ≡ false → AreTails ws b m q t → AreAllTails ws b m q (seen_tails t.tails.items) t.weight
 moving-tails ws b m q t e h = rw e at h

@@ -2,6 +2,7 @@
 --     IsQuery q             the exponents of q are those of an input
 --     IsAnswer ws k q a     a answers q: its order is k, and k is too early for q, or a has the series, the family, or the
 --                           first fault
+--     IsToldAnswer a              a isn't want of memory, which is no answer
 use Rattle.std.specs.Prelude.{◌≡◌, ℕ, nat_lt, Bool, false, List, Option, Some, None, Result, Ok, Err}
 use Rattle.std.specs.Bool.{MatchBool}
 use Rattle.scattering.specs.Series.{Exp}
@@ -12,7 +13,7 @@ use Rattle.scattering.specs.ThetaProduct.{IsProductFault}
 use Rattle.plane_geom.specs.Shown.{point_of}
 use Rattle.trunc_series.specs.Shown.{exp_of}
 use Rattle.broken_lines.specs.declared.fault.AskFault.{AskFault}
-use Rattle.broken_lines.specs.declared.fault.AskFault.TheVariants.{NotYet}
+use Rattle.broken_lines.specs.declared.fault.AskFault.TheVariants.{NotYet, Memory}
 use Rattle.broken_lines.specs.Traced.{IsFaultBy}
 use Rattle.theta_algebra.specs.declared.query.QueryKind.{QueryKind}
 use Rattle.theta_algebra.specs.declared.query.QueryKind.TheVariants.{Theta, Product}
@@ -53,3 +54,9 @@ IsResult ws k (Product l r) q result = IsProductResult ws k (exp_of l) (exp_of r
 pub record IsAnswer (ws : List Wall) (k : ℕ) (q : Query) (a : Answer) : Type 0 where
   pub order : a.order ≡ k
   pub result : MatchBool (is_early k q.least) (a.result ≡ Err (NotYet k)) (IsResult ws k q.kind (point_of q.at) a.result)
+
+abbrev pub IsToldResult : Result Reply AskFault → Type 0
+IsToldResult result = (result ≡ Err Memory) → ⊥
+
+abbrev pub IsToldAnswer : Answer → Type 0
+IsToldAnswer a = IsToldResult a.result

@@ -6,3 +6,5 @@ pub mod Stages
 pub mod Steps
 pub mod Parts
 pub mod Answering
+pub mod KeptThetas
+pub mod Laws

@@ -6,6 +6,8 @@
 
 mod answering;
 mod family;
+mod kept_thetas;
+mod laws;
 mod line_values;
 mod product;
 mod query;
@@ -13,6 +15,7 @@ mod steps;
 mod thetas;
 
 pub use answering::answer;
+pub use laws::one_answer;
 pub use product::theta_product;
 pub use query::{Answer, Query, QueryKind, Reply};
 pub use thetas::theta;

@@ -9,10 +9,11 @@ ghost use Rattle.trunc_series.specs.Shown.{exp_of};
 ghost use Rattle.broken_lines.specs.Traced.{IsFaultBy};
 ghost use Rattle.theta_algebra.specs.Families.{IsFactorExp, IsFamilyOf};
 ghost use Rattle.theta_algebra.specs.Steps.{IsKnownDiagram, IsAtStage, IsAtSomeStage, IsBegunProduct};
+ghost use Rattle.theta_algebra.specs.KeptThetas.{AreKeptThetas};
 
 use crate::family::parts;
+use crate::kept_thetas::KeptThetas;
 use crate::steps::{Steps, step};
-use crate::thetas::weighed_theta;
 use broken_lines::AskFault;
 use limits::LARGEST_WEIGHT;
 use plane_geom::Point;
@@ -23,6 +24,7 @@ use trunc_series::{Exp, Series};
 
 /// Before the first step: no family, and the product as it is.
 fn begun(
+    thetas: &mut KeptThetas,
     alloc: Global,
     e: &Diagram,
     p: Exp,
@@ -33,13 +35,15 @@ fn begun(
     requires given { IsKnownDiagram e.now limit }
     requires first { IsFactorExp p }
     requires second { IsFactorExp q }
+    requires kept { AreKeptThetas (walls e.now.diagram) (point_of at.now) thetas.old }
     ensures begun { IfOk result (IsBegunProduct (walls e.now.diagram) limit (exp_of p) (exp_of q)
         (point_of at.now)) }
     ensures fault { IfErr result (IsFaultBy (IsProductFault (walls e.now.diagram) limit
         (exp_of p) (exp_of q) (point_of at.now))) }
+    ensures kept { AreKeptThetas (walls e.now.diagram) (point_of at.now) thetas.new }
 {
-    let first = weighed_theta(alloc, e, p, at, limit)?;
-    let second = weighed_theta(alloc, e, q, at, limit)?;
+    let first = thetas.weighed(alloc, e, p, at, limit)?;
+    let second = thetas.weighed(alloc, e, q, at, limit)?;
     let weight = first.1.saturating_mul(second.1);
     if weight > LARGEST_WEIGHT {
         return Err(AskFault::WeightTooLarge);
@@ -56,9 +60,17 @@ fn begun(
 }
 
 /// All steps, one after another.
-fn run(alloc: Global, e: &Diagram, at: &Point, limit: u32, begun: Steps) -> Result<Steps, AskFault>
+fn run(
+    thetas: &mut KeptThetas,
+    alloc: Global,
+    e: &Diagram,
+    at: &Point,
+    limit: u32,
+    begun: Steps,
+) -> Result<Steps, AskFault>
     requires given { IsKnownDiagram e.now limit }
     requires begun { IsAtSomeStage (walls e.now.diagram) limit (point_of at.now) 0 begun }
+    requires kept { AreKeptThetas (walls e.now.diagram) (point_of at.now) thetas.old }
     ensures after { IfOk result (λ after. (s : Sum) (first : ℕ) →
         IsAtStage (walls e.now.diagram) limit (point_of at.now) s first 0 begun →
         IsAtStage (walls e.now.diagram) limit (point_of at.now) s first (limit + 1) after) }
@@ -68,7 +80,7 @@ fn run(alloc: Global, e: &Diagram, at: &Point, limit: u32, begun: Steps) -> Resu
 {
     let mut steps = begun;
     for d in 0..limit + 1 {
-        steps = step(alloc, e, at, limit, d, steps)?;
+        steps = step(thetas, alloc, e, at, limit, d, steps)?;
     }
     Ok(steps)
 }
@@ -101,7 +113,8 @@ pub fn theta_product(
     // the diagram's order is asked for what its type says of its walls
     let order = e.order();
     prove!(limit <= order);
-    let begun = begun(alloc, e, p, q, at, limit)?;
-    let steps = run(alloc, e, at, limit, begun)?;
+    let mut thetas = KeptThetas::new(alloc);
+    let begun = begun(&mut thetas, alloc, e, p, q, at, limit)?;
+    let steps = run(&mut thetas, alloc, e, at, limit, begun)?;
     Ok(parts(alloc, limit, steps.family.as_slice())?)
 }

@@ -11,8 +11,9 @@ ghost use Rattle.trunc_series.specs.Reduced.{IsKeptAs, IsFactor};
 ghost use Rattle.trunc_series.specs.declared.arithmetic.Arithmetic.TheVariants.{Wrapping};
 ghost use Rattle.broken_lines.specs.Traced.{IsFaultBy, IsTailsFault};
 ghost use Rattle.theta_algebra.specs.Steps.{IsKnownDiagram, IsBegun, IsLeastDegreeAt, IsAtStage, IsAtSomeStage, IsTermTaken, CanBeTaken, Leaves};
+ghost use Rattle.theta_algebra.specs.KeptThetas.{AreKeptThetas};
 
-use crate::thetas::weighed_theta;
+use crate::kept_thetas::KeptThetas;
 use broken_lines::AskFault;
 use limits::LARGEST_WEIGHT;
 use plane_geom::Point;
@@ -86,6 +87,7 @@ fn less(
 
 /// Takes the product of a term with the theta of its exponent from what is left.
 fn take(
+    thetas: &mut KeptThetas,
     alloc: Global,
     e: &Diagram,
     at: &Point,
@@ -95,14 +97,16 @@ fn take(
 ) -> Result<Steps, AskFault>
     requires given { IsKnownDiagram e.now limit }
     requires term { CanBeTaken limit (sum_of before.family.items) t.now }
+    requires kept { AreKeptThetas (walls e.now.diagram) (point_of at.now) thetas.old }
     ensures taken { IfOk result (IsTermTaken (walls e.now.diagram) limit (point_of at.now)
         t.now before) }
     ensures fault { IfErr result (λ f. (i : ℕ) →
         IsBegun limit (sum_of before.family.items) t.now i →
         IsTailsFault (walls e.now.diagram) (limit - i) (exp_of t.now.0.exp) (point_of at.now) f) }
+    ensures kept { AreKeptThetas (walls e.now.diagram) (point_of at.now) thetas.new }
 {
     let begun = begun_at(before.family.as_slice(), t.0.exp, limit);
-    let theta = weighed_theta(alloc, e, t.0.exp, at, limit - begun)?;
+    let theta = thetas.weighed(alloc, e, t.0.exp, at, limit - begun)?;
     let weight = grown(before.weight, t.1, theta.1);
     let left = less(alloc, limit, before.left.as_slice(), t, theta.0.terms())?;
     Ok(Steps {
@@ -114,6 +118,7 @@ fn take(
 
 /// Step d: the terms of degree d that are left are terms of the family.
 pub(crate) fn step(
+    thetas: &mut KeptThetas,
     alloc: Global,
     e: &Diagram,
     at: &Point,
@@ -124,12 +129,14 @@ pub(crate) fn step(
     requires given { IsKnownDiagram e.now limit }
     requires degree { d ≤ limit }
     requires before { IsAtSomeStage (walls e.now.diagram) limit (point_of at.now) d before }
+    requires kept { AreKeptThetas (walls e.now.diagram) (point_of at.now) thetas.old }
     ensures after { IfOk result (λ after. (s : Sum) (first : ℕ) →
         IsAtStage (walls e.now.diagram) limit (point_of at.now) s first d before →
         IsAtStage (walls e.now.diagram) limit (point_of at.now) s first (d + 1) after) }
     ensures fault { IfErr result (λ f. (s : Sum) (first : ℕ) →
         IsAtStage (walls e.now.diagram) limit (point_of at.now) s first d before →
         IsFaultBy (StepsFault (walls e.now.diagram) limit (point_of at.now) s first) f) }
+    ensures kept { AreKeptThetas (walls e.now.diagram) (point_of at.now) thetas.new }
 {
     let new = level(alloc, d, before.left.as_slice())?;
     let family = merged(
@@ -144,7 +151,7 @@ pub(crate) fn step(
         weight: before.weight,
     };
     for t in new.as_slice() {
-        steps = take(alloc, e, at, limit, steps, t)?;
+        steps = take(thetas, alloc, e, at, limit, steps, t)?;
     }
     if steps.weight > LARGEST_WEIGHT {
         return Err(AskFault::WeightTooLarge);

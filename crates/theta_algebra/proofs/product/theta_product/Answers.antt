@@ -8,6 +8,9 @@ use Rattle.theta_algebra.specs.Parts.{AreFamilyParts}
 use Rattle.theta_algebra.proofs.WholeProducts.{family-series, family-of-parts}
 use Rattle.theta_algebra.proofs.product.theta_product.Goals as goal
 
+pub begun-requires-clause-kept : goal.begun-requires-clause-kept
+begun-requires-clause-kept c = c.new-thetas.ensures (walls c.args.e.now.diagram) (point_of c.args.at.now)
+
 pub parts-requires-clause-series : goal.parts-requires-clause-series
 parts-requires-clause-series c =
     let h = c.in_ok-begun.ensures.begun in

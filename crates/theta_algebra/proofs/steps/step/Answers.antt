@@ -33,6 +33,7 @@ loop-t-init c =
       refl,
       λ s first stage. takes-none c.args.e.now c.args.limit c.args.d c.args.at.now c.requires.given c.requires.degree c.args.before c.as_slice-t-items.result.now c.in_ok-family.family.items h
           s first stage record { family = c.in_ok-family.family; left = c.args.before.left; weight = c.args.before.weight } refl refl,
+      c.requires.kept,
     )
 
 pub loop-t-preserved : goal.loop-t-preserved
@@ -42,6 +43,7 @@ loop-t-preserved c =
       c.in_ok-steps.ensures.taken.family ∙ c.loop-t.invariant.0,
       λ s first stage. takes-more c.args.e.now c.args.limit c.args.d c.args.at.now c.requires.given c.requires.degree c.args.before c.as_slice-t-items.result.now c.in_ok-family.family.items h
           s first stage c.loop-t.t-index c.loop-t-test.true c.loop-t.steps c.in_ok-steps.steps c.loop-t.invariant.0 (c.loop-t.invariant.1 s first stage) c.in_ok-steps.ensures.taken,
+      c.in_ok-steps.ensures.kept,
     )
 
 pub returns-in_err-steps-clause-fault : goal.returns-in_err-steps-clause-fault

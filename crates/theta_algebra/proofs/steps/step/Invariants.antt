@@ -4,6 +4,7 @@ use Rattle.scattering.specs.Wall.{walls}
 use Rattle.plane_geom.specs.Shown.{point_of}
 use Rattle.trunc_series.specs.Shown.{sum_of}
 use Rattle.theta_algebra.specs.Steps.{IsAtStage}
+use Rattle.theta_algebra.specs.KeptThetas.{AreKeptThetas}
 use Rattle.theta_algebra.proofs.Stepping.{AreTaken}
 use Rattle.theta_algebra.proofs.steps.step.Given as goal
 
@@ -12,3 +13,4 @@ invariant-loop-t l =
     (sum_of l.steps.family.items ≡ sum_of l.initial.steps.family.items)
     × ((s : Sum) (first : ℕ) → IsAtStage (walls l.fn.e.diagram) l.fn.limit (point_of l.fn.at) s first l.fn.d l.fn.before
     → AreTaken l.fn.e l.fn.limit l.fn.at l.fn.before l.t-items l.initial.steps.family.items s l.t-index l.steps)
+    × AreKeptThetas (walls l.fn.e.diagram) (point_of l.fn.at) l.thetas
