@@ -1,0 +1,40 @@
+// One ask, where want of memory is no answer.
+
+ghost use Rattle.std.specs.Prelude.{◌≡◌, false, OnOk};
+ghost use Rattle.scattering.specs.Wall.{walls};
+ghost use Rattle.theta_algebra.specs.Answering.{IsQuery, IsAnswer, IsToldAnswer};
+
+use broken_lines::AskFault;
+use scatter_diagram::Diagram;
+use std::alloc::{AllocError, Global};
+use theta_algebra::{Answer, Query, answer};
+
+/// Whether this is want of memory.
+fn is_memory(answer: &Answer) -> bool
+    ensures { result ≡ false → IsToldAnswer answer.now }
+{
+    matches!(answer.result, Err(AskFault::Memory))
+}
+
+/// Answers a query once more where its answer is want of memory.
+pub(crate) fn tell(
+    alloc: Global,
+    e: &Diagram,
+    query: &Query,
+    found: &mut Answer,
+) -> Result<(), AllocError>
+    requires query { IsQuery query.now }
+    requires found { IsAnswer (walls e.now.diagram) e.now.order query.now found.old }
+    ensures answer { OnOk result (IsAnswer (walls e.now.diagram) e.now.order query.now found.new) }
+    ensures told { OnOk result (IsToldAnswer found.new) }
+{
+    if !is_memory(found) {
+        return Ok(());
+    }
+    let again = answer(alloc, e, query);
+    if is_memory(&again) {
+        return Err(AllocError);
+    }
+    *found = again;
+    Ok(())
+}
