@@ -12,14 +12,14 @@ use std::alloc::{AllocError, Global};
 use std::sync::Wait;
 use std::test::Fail;
 
-fn start(alloc: Global) -> Result<Completed, Fail>
+pub(crate) fn start(alloc: Global) -> Result<Completed, Fail>
     ensures { IfOk result (λ c. c.order ≡ 0) }
 {
     let lines = Initial::new(2, plain_axes(alloc)?);
     Ok(Completed::start(alloc, &lines)?)
 }
 
-fn next(last: &Completed) -> Result<Completed, Fail>
+pub(crate) fn next(last: &Completed) -> Result<Completed, Fail>
     requires { last.now.order < highest_order }
     ensures { IfOk result (λ c. epoch_of c ≡ next_epoch (epoch_of last.now)) }
 {
