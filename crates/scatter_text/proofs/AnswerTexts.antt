@@ -1,17 +1,21 @@
 -- The texts of answers, one after the other; there is only one text of them.
-use Rattle.std.proofs.Common.{◌≡◌, ℕ, suc, refl, sym, subst, ap, ◌∙◌, ◌<◌, ◌≤◌, ◌+◌, List, [], ◌∷◌, ◌++◌, length, take, get_or, append_assoc, arith}
-use Rattle.std.specs.Prelude.{codes, Option, Result, Ok, Err}
+use Rattle.std.proofs.Common.{◌≡◌, ℕ, suc, refl, sym, subst, ap, ◌∙◌, ◌<◌, ◌≤◌, ◌+◌, List, [], ◌∷◌, ◌++◌, length, take, get_or, map, append_assoc, arith}
+use Rattle.std.specs.Prelude.{codes, decimal, Option, Result, Ok, Err}
 use Rattle.std.proofs.lemmas.List.{take_more, take_all, append-nil, length-take-le}
 use Rattle.scattering.specs.Stops.{StopCause}
+use Rattle.scattering.specs.Theta as D
 use Rattle.plane_geom.specs.Shown.{point_of}
 use Rattle.broken_lines.specs.declared.fault.AskFault.{AskFault}
 use Rattle.broken_lines.specs.declared.fault.AskFault.TheVariants.{NotYet, NotGeneric, TooManyReach, TooManyTails, PointTooLarge, WeightTooLarge, Memory}
 use Rattle.theta_algebra.specs.declared.query.Reply.{Reply}
 use Rattle.theta_algebra.specs.declared.query.Reply.TheVariants.{Series, Family}
 use Rattle.theta_algebra.specs.declared.query.Answer.{Answer}
+use Rattle.theta_algebra.specs.Answers.{SeenReply, OneSeries, ManySeries}
+use Rattle.theta_algebra.specs.Laws.{PlainFault, TooEarly, Found, NoMemory, plain_fault, plain_result, PlainAnswer, plain_answer}
 use Rattle.scatter_text.specs.Grammar.{coordinate_text}
 use Rattle.scatter_text.specs.DiagramText.{line_of}
-use Rattle.scatter_text.specs.AnswersText.{IsFaultWords, IsResultText, answer_text, IsAnswerText, AreAnswerTexts, stopped_text, answers_heading, IsAnswersText}
+use Rattle.scatter_text.specs.Laws.{AnswersTextIsOne}
+use Rattle.scatter_text.specs.AnswersText.{IsPointWords, IsFaultWords, series_text, family_text, IsResultText, answer_text, IsAnswerText, AreAnswerTexts, stopped_text, answers_heading, IsAnswersText}
 use Rattle.scatter_text.proofs.OneDiagramText.{coordinate-one}
 
 -- ---- one more
@@ -63,25 +67,77 @@ words-one PointTooLarge words other a b = a ∙ sym b
 words-one WeightTooLarge words other a b = a ∙ sym b
 words-one Memory words other a b = absurd a
 
-result-one : (vars : ℕ) (result : Result Reply AskFault) (text other : List ℕ) → IsResultText vars result text → IsResultText vars result other → text ≡ other
-result-one vars (Ok (Series s)) text other a b = a ∙ sym b
-result-one vars (Ok (Family ps)) text other a b = a ∙ sym b
-result-one vars (Err fault) text other (words, h, is) (words', h', is') =
+-- by what is told of an answer
+
+abbrev AreWordsOf : PlainFault → List ℕ → Type 0
+AreWordsOf (TooEarly newest) words = words ≡ codes "not-yet" ++ 32 ∷ decimal newest
+AreWordsOf (Found (D.NotGeneric p)) words = IsPointWords p words
+AreWordsOf (Found D.TooManyReach) words = words ≡ codes "too-many-reach"
+AreWordsOf (Found D.TooManyTails) words = words ≡ codes "too-many-tails"
+AreWordsOf (Found D.PointTooLarge) words = words ≡ codes "point-too-large"
+AreWordsOf (Found D.WeightTooLarge) words = words ≡ codes "weight-too-large"
+AreWordsOf NoMemory words = ⊥
+
+words-plain : (f : AskFault) (words : List ℕ) → IsFaultWords f words → AreWordsOf (plain_fault f) words
+words-plain (NotYet n) words h = h
+words-plain (NotGeneric p) words h = h
+words-plain TooManyReach words h = h
+words-plain TooManyTails words h = h
+words-plain PointTooLarge words h = h
+words-plain WeightTooLarge words h = h
+words-plain Memory words h = h
+
+plain-words : (f : AskFault) (words : List ℕ) → AreWordsOf (plain_fault f) words → IsFaultWords f words
+plain-words (NotYet n) words h = h
+plain-words (NotGeneric p) words h = h
+plain-words TooManyReach words h = h
+plain-words TooManyTails words h = h
+plain-words PointTooLarge words h = h
+plain-words WeightTooLarge words h = h
+plain-words Memory words h = h
+
+abbrev IsTextOfResult : ℕ → Result SeenReply PlainFault → List ℕ → Type 0
+IsTextOfResult vars (Ok (OneSeries s)) text = text ≡ line_of (codes "series" ∷ []) ++ series_text vars s.terms
+IsTextOfResult vars (Ok (ManySeries ps)) text = text ≡ line_of (codes "product" ∷ []) ++ family_text vars ps
+IsTextOfResult vars (Err fault) text = (words : List ℕ) × AreWordsOf fault words × (text ≡ line_of (codes "fault" ∷ words ∷ []))
+
+result-plain : (vars : ℕ) (r : Result Reply AskFault) (text : List ℕ) → IsResultText vars r text → IsTextOfResult vars (plain_result r) text
+result-plain vars (Ok (Series s)) text h = h
+result-plain vars (Ok (Family ps)) text h = h
+result-plain vars (Err f) text (words, h, is) = (words, words-plain f words h, is)
+
+plain-result : (vars : ℕ) (r : Result Reply AskFault) (text : List ℕ) → IsTextOfResult vars (plain_result r) text → IsResultText vars r text
+plain-result vars (Ok (Series s)) text h = h
+plain-result vars (Ok (Family ps)) text h = h
+plain-result vars (Err f) text (words, h, is) = (words, plain-words f words h, is)
+
+one-result : (vars : ℕ) (r : Result Reply AskFault) (text other : List ℕ) → IsResultText vars r text → IsResultText vars r other → text ≡ other
+one-result vars (Ok (Series s)) text other a b = a ∙ sym b
+one-result vars (Ok (Family ps)) text other a b = a ∙ sym b
+one-result vars (Err fault) text other (words, h, is) (words', h', is') =
     let e = words-one fault words words' h h' in
     is ∙ ap (λ (w : List ℕ). line_of (codes "fault" ∷ w ∷ [])) e ∙ sym is'
 
-answer-one : (vars i : ℕ) (a : Answer) (text other : List ℕ) → IsAnswerText vars i a text → IsAnswerText vars i a other → text ≡ other
-answer-one vars i a text other (rest, h, is) (rest', h', is') =
-    is ∙ ap (λ (r : List ℕ). answer_text i a.order r) (result-one vars a.result rest rest' h h') ∙ sym is'
+result-one : (vars : ℕ) (r s : Result Reply AskFault) (text other : List ℕ) → plain_result r ≡ plain_result s → IsResultText vars r text → IsResultText vars s other → text ≡ other
+result-one vars r s text other e a b = one-result vars r text other a (plain-result vars r other (subst (λ (x : Result SeenReply PlainFault). IsTextOfResult vars x other) (sym e) (result-plain vars s other b)))
 
-answers-one : (vars i : ℕ) (answers : List Answer) (text other : List ℕ) → AreAnswerTexts vars i answers text → AreAnswerTexts vars i answers other → text ≡ other
-answers-one vars i [] text other a b = a ∙ sym b
-answers-one vars i (w ∷ ws) text other (first, later, one, more, is) (first', later', one', more', is') =
-    let e : first ≡ first' = answer-one vars i w first first' one one' in
-    let f : later ≡ later' = answers-one vars (i + 1) ws later later' more more' in
+answer-one : (vars i : ℕ) (a b : Answer) (text other : List ℕ) → plain_answer a ≡ plain_answer b → IsAnswerText vars i a text → IsAnswerText vars i b other → text ≡ other
+answer-one vars i a b text other same (rest, h, is) (rest', h', is') =
+    let e : rest ≡ rest' = result-one vars a.result b.result rest rest' (ap (λ (x : PlainAnswer). x.result) same) h h' in
+    let o : a.order ≡ b.order = ap (λ (x : PlainAnswer). x.order) same in
+    is ∙ (λ j. answer_text i (o j) (e j)) ∙ sym is'
+
+answers-one : (vars i : ℕ) (ws us : List Answer) (text other : List ℕ) → map plain_answer ws ≡ map plain_answer us → AreAnswerTexts vars i ws text → AreAnswerTexts vars i us other → text ≡ other
+answers-one vars i [] [] text other same a b = a ∙ sym b
+answers-one vars i [] (u ∷ us) text other same a b = absurd (cc)
+answers-one vars i (w ∷ ws) [] text other same a b = absurd (cc)
+answers-one vars i (w ∷ ws) (u ∷ us) text other same (first, later, one, more, is) (first', later', one', more', is') =
+    let x : plain_answer w ≡ plain_answer u = cc in
+    let xs : map plain_answer ws ≡ map plain_answer us = cc in
+    let e : first ≡ first' = answer-one vars i w u first first' x one one' in
+    let f : later ≡ later' = answers-one vars (i + 1) ws us later later' xs more more' in
     is ∙ (λ j. e j ++ f j) ∙ sym is'
 
-pub answers_text-one : (vars published : ℕ) (stop : Option (ℕ × StopCause)) (answers : List Answer) (text other : List ℕ)
-    → IsAnswersText vars published stop answers text → IsAnswersText vars published stop answers other → text ≡ other
-answers_text-one vars published stop answers text other (body, h, is) (body', h', is') =
-    is ∙ ap (λ (b : List ℕ). answers_heading published ++ stopped_text stop ++ b ++ line_of (codes "end" ∷ [])) (answers-one vars 1 answers body body' h h') ∙ sym is'
+pub answers_text-one : AnswersTextIsOne
+answers_text-one vars published stop answers others text other same (body, h, is) (body', h', is') =
+    is ∙ ap (λ (b : List ℕ). answers_heading published ++ stopped_text stop ++ b ++ line_of (codes "end" ∷ [])) (answers-one vars 1 answers others body body' same h h') ∙ sym is'

@@ -91,10 +91,3 @@ answers_heading published = line_of (codes "answers" ∷ codes "1" ∷ []) ++ li
 abbrev pub IsAnswersText : ℕ → ℕ → Option (ℕ × StopCause) → List Answer → List ℕ → Type 0
 IsAnswersText vars published stop answers text = (body : List ℕ) × AreAnswerTexts vars 1 answers body
     × (text ≡ answers_heading published ++ stopped_text stop ++ body ++ line_of (codes "end" ∷ []))
-
--- want of memory is no answer
-abbrev pub IsToldResult : Result Reply AskFault → Type 0
-IsToldResult result = (result ≡ Err Memory) → ⊥
-
-abbrev pub IsToldAnswer : Answer → Type 0
-IsToldAnswer a = IsToldResult a.result

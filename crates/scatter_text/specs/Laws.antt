@@ -1,5 +1,5 @@
 -- What is proved here of texts: that they are one.
-use Rattle.std.specs.Prelude.{◌≡◌, ℕ, ℤ, List, Option}
+use Rattle.std.specs.Prelude.{◌≡◌, ℕ, ℤ, List, map, Option}
 use Rattle.std.specs.List.{AllZip}
 use Rattle.scattering.specs.Collections.{Every}
 use Rattle.scattering.specs.Wall.{Wall, IsWall, Diagram, walls}
@@ -8,6 +8,7 @@ use Rattle.scatter_text.specs.declared.file.LineRow.{LineRow}
 use Rattle.scatter_text.specs.Values.{AreLineRows}
 use Rattle.scatter_text.specs.DiagramText.{IsDiagramText}
 use Rattle.theta_algebra.specs.declared.query.Answer.{Answer}
+use Rattle.theta_algebra.specs.Laws.{plain_answer}
 use Rattle.scatter_text.specs.GivenWalls.{IsWallOf}
 use Rattle.scatter_text.specs.AnswersText.{IsAnswersText}
 
@@ -20,7 +21,7 @@ abbrev pub DiagramTextIsOne : Type 0
 DiagramTextIsOne = (vars order n : ℕ) (e : Diagram) (stop : Option (ℕ × StopCause)) (text other : List ℕ) → Every (IsWall n) (walls e)
     → IsDiagramText vars order e stop text → IsDiagramText vars order e stop other → text ≡ other
 
--- answers have one text
+-- answers have one text, and so have others that tell the same
 abbrev pub AnswersTextIsOne : Type 0
-AnswersTextIsOne = (vars published : ℕ) (stop : Option (ℕ × StopCause)) (answers : List Answer) (text other : List ℕ)
-    → IsAnswersText vars published stop answers text → IsAnswersText vars published stop answers other → text ≡ other
+AnswersTextIsOne = (vars published : ℕ) (stop : Option (ℕ × StopCause)) (answers others : List Answer) (text other : List ℕ) → map plain_answer answers ≡ map plain_answer others
+    → IsAnswersText vars published stop answers text → IsAnswersText vars published stop others other → text ≡ other

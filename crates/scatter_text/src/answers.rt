@@ -8,7 +8,8 @@ ghost use Rattle.scatter_diagram.specs.Stopped.{stop_of};
 ghost use Rattle.broken_lines.specs.declared.fault.AskFault.TheVariants.{Memory};
 ghost use Rattle.scatter_text.specs.DiagramText.{first_powers};
 ghost use Rattle.scatter_text.specs.PrintedRows.{Continues, ContinuesSome};
-ghost use Rattle.scatter_text.specs.AnswersText.{monomial_text, series_text, powers_text, theta_text, family_text, IsPointWords, IsFaultWords, IsResultText, IsAnswerText, AreAnswerTexts, stopped_text, IsToldResult, IsToldAnswer, IsAnswersText};
+ghost use Rattle.theta_algebra.specs.Answering.{IsToldResult, IsToldAnswer};
+ghost use Rattle.scatter_text.specs.AnswersText.{monomial_text, series_text, powers_text, theta_text, family_text, IsPointWords, IsFaultWords, IsResultText, IsAnswerText, AreAnswerTexts, stopped_text, IsAnswersText};
 
 use crate::printing::{push_closing, push_coordinate, push_powers, push_signed};
 use broken_lines::AskFault;

@@ -2,7 +2,7 @@
 
 ghost use Rattle.std.specs.Prelude.{◌≢◌};
 ghost use Rattle.broken_lines.specs.declared.fault.AskFault.TheVariants.{Memory};
-ghost use Rattle.scatter_text.specs.AnswersText.{IsToldResult};
+ghost use Rattle.theta_algebra.specs.Answering.{IsToldResult};
 
 use crate::files::file_in;
 use crate::lines::initial;

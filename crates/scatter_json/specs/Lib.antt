@@ -1,0 +1,4 @@
+pub mod JsonForm
+pub mod JsonText
+pub mod Parts
+pub mod Laws
