@@ -12,8 +12,12 @@ mod generated;
 #[cfg(test)]
 mod inputs;
 #[cfg(test)]
+mod json;
+#[cfg(test)]
 mod outside;
 #[cfg(test)]
 mod refusals;
 #[cfg(test)]
 mod streams;
+#[cfg(test)]
+mod theta;

@@ -13,15 +13,15 @@ use Rattle.scatter_step.specs.Orders.{IsOutcome}
 use Rattle.scatter_step.specs.declared.complete.Outcome.{Outcome}
 use Rattle.scatter_text.specs.declared.file.LineRow.{LineRow}
 use Rattle.scatter_text.specs.declared.file.TextFile.{TextFile}
-use Rattle.scatter_text.specs.DiagramText.{IsDiagramText}
 use Rattle.scatter_text.specs.GivenWalls.{IsInitialOf}
 use Rattle.scatter_run.specs.Completed.{IsLastCompletion, IsCompletedText, IsSummary}
 use Rattle.scatter_run.specs.Generated.{generated_lines, generated_order, summary_text}
-use Rattle.scatter_text.specs.Grammar.{IsTextOf}
+use Rattle.scatter_run.specs.declared.form.Form.{Form}
+use Rattle.scatter_run.specs.Form.{IsFileIn, IsPrintedIn}
 use Rattle.scatter_text.specs.Limits.{limit_of}
 use Rattle.scatter_run.specs.declared.status.Status.{Status}
-use Rattle.scatter_run.specs.declared.status.Status.TheVariants.{Done, Words, Text, Limit, Stopped, ReadFault, WriteFault, Memory}
-use Rattle.scatter_run.specs.Outcome.{IsEnded, IsCompleteOutcome, IsGenerateOutcome, ends_with}
+use Rattle.scatter_run.specs.declared.status.Status.TheVariants.{Done, Words, Text, Json, Limit, Stopped, ReadFault, WriteFault, Memory}
+use Rattle.scatter_run.specs.Outcome.{IsEnded, IsFormOutcome, IsGenerateOutcome, ends_with}
 use Rattle.scatter_run.proofs.OneOutcome.{last-low}
 
 pub last-completion : (file : TextFile) (order : ℕ) (i : SeenInitial) (o : Outcome) → order ≤ highest_order → IsInitialOf file i → IsOutcome i order o
@@ -38,36 +38,37 @@ last-completion file order i o low is out =
       completion = completion-of_cut is.given highest_order (last_before order (stop_of o.stop)) o.last.diagram last done;
     }
 
--- ---- `complete`
+-- ---- a completion in a form
 
-completed-text : (file : TextFile) (order : ℕ) (i : SeenInitial) (o : Outcome) (text : List ℕ) → order ≤ highest_order → IsInitialOf file i → IsOutcome i order o
-    → IsDiagramText i.vars o.last.order o.last.diagram (stop_of o.stop) text → IsCompletedText file order (stop_of o.stop) text
-completed-text file order i o text low is out t = record {
+completed-text : (form : Form) (file : TextFile) (order : ℕ) (i : SeenInitial) (o : Outcome) (text : List ℕ) → order ≤ highest_order → IsInitialOf file i → IsOutcome i order o
+    → IsPrintedIn form file.asks i.vars o.last.order o.last.diagram (stop_of o.stop) text → IsCompletedText form file order (stop_of o.stop) text
+completed-text form file order i o text low is out t = record {
   vars = i.vars;
   diagram = o.last.diagram;
   variables = is.vars;
   last = last-completion file order i o low is out;
-  printed = subst (λ (n : ℕ). IsDiagramText i.vars n o.last.diagram (stop_of o.stop) text) out.order t;
+  printed = subst (λ (n : ℕ). IsPrintedIn form file.asks i.vars n o.last.diagram (stop_of o.stop) text) out.order t;
 }
 
-ended-by : (file : TextFile) (order : ℕ) (stop : Option (ℕ × CodeCause)) (text : List ℕ) → IsCompletedText file order (stop_of stop) text → IsEnded file order (ends_with stop) text
-ended-by file order None text h = h
-ended-by file order (Some s) text h = h
+ended-by : (form : Form) (file : TextFile) (order : ℕ) (stop : Option (ℕ × CodeCause)) (text : List ℕ) → IsCompletedText form file order (stop_of stop) text → IsEnded form file order (ends_with stop) text
+ended-by form file order None text h = h
+ended-by form file order (Some s) text h = h
 
-pub ended : (file : TextFile) (order : ℕ) (i : SeenInitial) (o : Outcome) (text : List ℕ) → order ≤ highest_order → IsInitialOf file i → IsOutcome i order o
-    → IsDiagramText i.vars o.last.order o.last.diagram (stop_of o.stop) text → IsEnded file order (ends_with o.stop) text
-ended file order i o text low is out t = ended-by file order o.stop text (completed-text file order i o text low is out t)
+pub ended : (form : Form) (file : TextFile) (order : ℕ) (i : SeenInitial) (o : Outcome) (text : List ℕ) → order ≤ highest_order → IsInitialOf file i → IsOutcome i order o
+    → IsPrintedIn form file.asks i.vars o.last.order o.last.diagram (stop_of o.stop) text → IsEnded form file order (ends_with o.stop) text
+ended form file order i o text low is out t = ended-by form file order o.stop text (completed-text form file order i o text low is out t)
 
 -- so it is the outcome of bytes that say the file
-pub job-outcome : (order : ℕ) (bytes : List ℕ) (file : TextFile) (status : Status) (text : List ℕ) → length bytes ≤ most_bytes → IsTextOf bytes file → limit_of file order ≡ None → IsEnded file order status text → IsCompleteOutcome order bytes status text
-job-outcome order bytes file Done text short reads within h = record { short = short; file = file; reads = reads; within = within; completed = h }
-job-outcome order bytes file Words text short reads within h = absurd h
-job-outcome order bytes file (Text line kind) text short reads within h = absurd h
-job-outcome order bytes file (Limit kind) text short reads within h = absurd h
-job-outcome order bytes file (Stopped at cause) text short reads within h = record { short = short; file = file; reads = reads; within = within; completed = h }
-job-outcome order bytes file ReadFault text short reads within h = absurd h
-job-outcome order bytes file WriteFault text short reads within h = absurd h
-job-outcome order bytes file Memory text short reads within h = absurd h
+pub job-outcome : (form : Form) (order : ℕ) (bytes : List ℕ) (file : TextFile) (status : Status) (text : List ℕ) → length bytes ≤ most_bytes → IsFileIn form bytes file → limit_of file order ≡ None → IsEnded form file order status text → IsFormOutcome form order bytes status text
+job-outcome form order bytes file Done text short reads within h = record { short = short; file = file; reads = reads; within = within; completed = h }
+job-outcome form order bytes file Words text short reads within h = absurd h
+job-outcome form order bytes file (Text line kind) text short reads within h = absurd h
+job-outcome form order bytes file (Json kind) text short reads within h = absurd h
+job-outcome form order bytes file (Limit kind) text short reads within h = absurd h
+job-outcome form order bytes file (Stopped at cause) text short reads within h = record { short = short; file = file; reads = reads; within = within; completed = h }
+job-outcome form order bytes file ReadFault text short reads within h = absurd h
+job-outcome form order bytes file WriteFault text short reads within h = absurd h
+job-outcome form order bytes file Memory text short reads within h = absurd h
 
 -- ---- `generate`
 

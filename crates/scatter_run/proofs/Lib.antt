@@ -1,7 +1,10 @@
+pub mod AskedText
 pub mod CommandLine
 pub mod CompletedText
 pub mod GeneratedExample
 pub mod GeneratedFile
+pub mod OneAnswers
+pub mod OneForm
 pub mod OneOutcome
 pub mod Promises
 pub mod WordLists

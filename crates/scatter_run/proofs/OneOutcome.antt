@@ -15,24 +15,26 @@ use Rattle.scatter_diagram.specs.declared.stop.StopCause.{StopCause as CodeCause
 use Rattle.scatter_diagram.specs.declared.stop.StopCause.TheVariants as code
 use Rattle.scatter_diagram.specs.Stopped.{cause_of, stop_of}
 use Rattle.scatter_text.specs.declared.file.LineRow.{LineRow}
+use Rattle.scatter_text.specs.declared.file.AskRow.{AskRow}
 use Rattle.scatter_text.specs.declared.file.TextFile.{TextFile}
 use Rattle.scatter_text.specs.declared.fault.LimitKind.{LimitKind}
 use Rattle.scatter_text.specs.declared.fault.LimitKind.TheVariants.{Bytes}
 use Rattle.scatter_text.specs.declared.fault.TextKind.{TextKind}
-use Rattle.scatter_text.specs.Grammar.{IsTextOf, IsTextFault}
 use Rattle.scatter_text.specs.Limits.{limit_of, limit_by, IsWithinLimits}
-use Rattle.scatter_text.specs.DiagramText.{IsDiagramText}
 use Rattle.scatter_text.proofs.WithinLimits.{within-limits}
 use Rattle.scatter_text.proofs.InitialLines.{given-cut}
-use Rattle.scatter_text.proofs.Outcomes.{text_has_no_fault, fault_is_one}
-use Rattle.scatter_text.proofs.OneFile.{file_is_one}
-use Rattle.scatter_text.proofs.OneDiagramText.{walls-one, text-one}
+use Rattle.scatter_text.proofs.OneDiagramText.{walls-one}
+use Rattle.scatter_json.specs.declared.fault.JsonKind.{JsonKind}
+use Rattle.scatter_run.specs.declared.form.Form.{Form}
+use Rattle.scatter_run.specs.declared.form.Form.TheVariants as form
+use Rattle.scatter_run.specs.Form.{IsFileIn, IsBadTextIn, IsBadJsonIn, IsPrintedIn}
+use Rattle.scatter_run.proofs.OneForm.{file-one, no-bad_text, no-bad_json, bad_text-one, bad_json-one, bad-one, printed-one}
 use Rattle.scatter_run.specs.declared.words.Job.{Job}
 use Rattle.scatter_run.specs.declared.words.Job.TheVariants.{Complete, Generate}
 use Rattle.scatter_run.specs.declared.status.Status.{Status}
-use Rattle.scatter_run.specs.declared.status.Status.TheVariants.{Done, Words, Text, Limit, Stopped, ReadFault, WriteFault, Memory}
+use Rattle.scatter_run.specs.declared.status.Status.TheVariants.{Done, Words, Text, Json, Limit, Stopped, ReadFault, WriteFault, Memory}
 use Rattle.scatter_run.specs.Words.{AreWordsOf, NameNoJob}
-use Rattle.scatter_run.specs.Outcome.{IsCompleteOutcome, IsGenerateOutcome, IsJobOutcome, IsRunOutcome, IsVerdict, HasCompleted, IsLimited as IsLimitOf, PassesLimit, ends_with, bad_text, limit_fault_text, words_fault_text}
+use Rattle.scatter_run.specs.Outcome.{IsFormOutcome, IsGenerateOutcome, IsJobOutcome, IsRunOutcome, IsVerdict, HasCompleted, IsLimited as IsLimitOf, PassesLimit, ends_with, bad_text, bad_json_text, limit_fault_text, words_fault_text}
 use Rattle.scatter_run.specs.Completed.{IsLastCompletion, IsSummary}
 use Rattle.scatter_run.specs.Generated.{generated_order, summary_text}
 use Rattle.scatter_run.specs.Promise.{IsOnlyOutcome, HasWritten}
@@ -90,28 +92,30 @@ record SameText (stop stop' : Option (ℕ × StopCause)) (text other : List ℕ)
   stops : stop ≡ stop'
   texts : text ≡ other
 
-completed-one : (order : ℕ) (bytes : List ℕ) (stop stop' : Option (ℕ × StopCause)) (text other : List ℕ) → order ≤ highest_order → HasCompleted order stop bytes text → HasCompleted order stop' bytes other → SameText stop stop' text other
-completed-one order bytes stop stop' text other low a b =
+completed-one : (form : Form) (order : ℕ) (bytes : List ℕ) (stop stop' : Option (ℕ × StopCause)) (text other : List ℕ) → order ≤ highest_order → HasCompleted form order stop bytes text → HasCompleted form order stop' bytes other → SameText stop stop' text other
+completed-one form order bytes stop stop' text other low a b =
     let p = a.completed in
     let q = b.completed in
-    let f = file_is_one bytes a.file b.file a.reads b.reads in
+    let f = file-one form bytes a.file b.file a.reads b.reads in
     let within = within-limits a.file order a.within in
     let e : pos p.vars ≡ pos q.vars = sym p.variables ∙ f.0 ∙ q.variables in
     let v : p.vars ≡ q.vars = cc in
     let o = last-one a.file order low within stop stop' p.diagram q.diagram p.last (subst (λ (rows : List LineRow). IsLastCompletion rows order stop' q.diagram) (sym f.1) q.last) in
     let n = last_before order stop in
-    let t : IsDiagramText p.vars n p.diagram stop other =
-    subst (λ (e : Diagram). IsDiagramText p.vars n e stop other) (sym o.diagrams)
-    (subst (λ (x : Option (ℕ × StopCause)). IsDiagramText p.vars (last_before order x) q.diagram x other) (sym o.stops)
-    (subst (λ (m : ℕ). IsDiagramText m (last_before order stop') q.diagram stop' other) (sym v) q.printed)) in
+    let asks = a.file.asks in
+    let t : IsPrintedIn form asks p.vars n p.diagram stop other =
+    subst (λ (e : Diagram). IsPrintedIn form asks p.vars n e stop other) (sym o.diagrams)
+    (subst (λ (x : Option (ℕ × StopCause)). IsPrintedIn form asks p.vars (last_before order x) q.diagram x other) (sym o.stops)
+    (subst (λ (m : ℕ). IsPrintedIn form asks m (last_before order stop') q.diagram stop' other) (sym v)
+    (subst (λ (rows : List AskRow). IsPrintedIn form rows q.vars (last_before order stop') q.diagram stop' other) (sym f.2) q.printed))) in
     record {
       stops = o.stops;
-      texts = text-one p.vars n n p.diagram stop text other (last-walls a.file order low within stop p.diagram p.last) p.printed t;
+      texts = printed-one form asks p.vars n n p.diagram stop text other (last-walls a.file order low within stop p.diagram p.last) (λ k d l. a.file.valid_asks k d l) p.printed t;
     }
 
-limit-one : (bytes : List ℕ) (f g : TextFile) (order : ℕ) → IsTextOf bytes f → IsTextOf bytes g → limit_of f order ≡ limit_of g order
-limit-one bytes f g order a b =
-    let e = file_is_one bytes f g a b in
+limit-one : (form : Form) (bytes : List ℕ) (f g : TextFile) (order : ℕ) → IsFileIn form bytes f → IsFileIn form bytes g → limit_of f order ≡ limit_of g order
+limit-one form bytes f g order a b =
+    let e = file-one form bytes f g a b in
     λ i. limit_by (e.0 i) (e.1 i) (e.2 i) order 1
 
 -- ---- outcomes by what the bytes are
@@ -119,31 +123,35 @@ limit-one bytes f g order a b =
 abbrev IsTooLong : List ℕ → Status → List ℕ → Type 0
 IsTooLong bytes s text = (most_bytes < length bytes) × (s ≡ Limit Bytes) × (text ≡ limit_fault_text Bytes)
 
-abbrev IsFaulty : List ℕ → Status → List ℕ → Type 0
-IsFaulty bytes s text = (line : ℕ) × (kind : TextKind) × (length bytes ≤ most_bytes) × IsTextFault bytes line kind × (s ≡ Text line kind) × (text ≡ bad_text line kind)
+abbrev IsFaulty : Form → List ℕ → Status → List ℕ → Type 0
+IsFaulty form bytes s text = (line : ℕ) × (kind : TextKind) × (length bytes ≤ most_bytes) × IsBadTextIn form bytes line kind × (s ≡ Text line kind) × (text ≡ bad_text line kind)
 
-abbrev IsLimited : ℕ → List ℕ → Status → List ℕ → Type 0
-IsLimited order bytes s text = (kind : LimitKind) × PassesLimit order kind bytes × (s ≡ Limit kind) × (text ≡ limit_fault_text kind)
+abbrev IsFaultyJson : Form → List ℕ → Status → List ℕ → Type 0
+IsFaultyJson form bytes s text = (kind : JsonKind) × (length bytes ≤ most_bytes) × IsBadJsonIn form bytes kind × (s ≡ Json kind) × (text ≡ bad_json_text kind)
 
-abbrev IsDone : ℕ → List ℕ → Status → List ℕ → Type 0
-IsDone order bytes s text = (stop : Option (ℕ × CodeCause)) × HasCompleted order (stop_of stop) bytes text × (s ≡ ends_with stop)
+abbrev IsLimited : Form → ℕ → List ℕ → Status → List ℕ → Type 0
+IsLimited form order bytes s text = (kind : LimitKind) × PassesLimit form order kind bytes × (s ≡ Limit kind) × (text ≡ limit_fault_text kind)
 
-abbrev Is : ℕ → List ℕ → Status → List ℕ → Type 0
-Is order bytes s text = IsTooLong bytes s text ⊎ (IsFaulty bytes s text ⊎ (IsLimited order bytes s text ⊎ IsDone order bytes s text))
+abbrev IsDone : Form → ℕ → List ℕ → Status → List ℕ → Type 0
+IsDone form order bytes s text = (stop : Option (ℕ × CodeCause)) × HasCompleted form order (stop_of stop) bytes text × (s ≡ ends_with stop)
 
-is : (order : ℕ) (bytes : List ℕ) (s : Status) (text : List ℕ) → IsCompleteOutcome order bytes s text → Is order bytes s text
-is order bytes Done text h = inr (inr (inr (None, h, refl)))
-is order bytes Words text h = absurd h
-is order bytes (Text line kind) text h = inr (inl (line, kind, h.short, h.fault, refl, h.says))
-is order bytes (Limit kind) text h = go h.0
+abbrev Is : Form → ℕ → List ℕ → Status → List ℕ → Type 0
+Is form order bytes s text = IsTooLong bytes s text ⊎ (IsFaulty form bytes s text ⊎ (IsFaultyJson form bytes s text ⊎ (IsLimited form order bytes s text ⊎ IsDone form order bytes s text)))
+
+is : (form : Form) (order : ℕ) (bytes : List ℕ) (s : Status) (text : List ℕ) → IsFormOutcome form order bytes s text → Is form order bytes s text
+is form order bytes Done text h = inr (inr (inr (inr (None, h, refl))))
+is form order bytes Words text h = absurd h
+is form order bytes (Text line kind) text h = inr (inl (line, kind, h.short, h.fault, refl, h.says))
+is form order bytes (Json kind) text h = inr (inr (inl (kind, h.short, h.fault, refl, h.says)))
+is form order bytes (Limit kind) text h = go h.0
   where
-    go : IsLimitOf order kind bytes → Is order bytes (Limit kind) text
+    go : IsLimitOf form order kind bytes → Is form order bytes (Limit kind) text
     go (inl l) = inl (l.1, ap (λ (k : LimitKind). Limit k) l.0, h.1 ∙ ap (λ (k : LimitKind). limit_fault_text k) l.0)
-    go (inr p) = inr (inr (inl (kind, p, refl, h.1)))
-is order bytes (Stopped at cause) text h = inr (inr (inr (Some (at, cause), h, refl)))
-is order bytes ReadFault text h = absurd h
-is order bytes WriteFault text h = absurd h
-is order bytes Memory text h = absurd h
+    go (inr p) = inr (inr (inr (inl (kind, p, refl, h.1))))
+is form order bytes (Stopped at cause) text h = inr (inr (inr (inr (Some (at, cause), h, refl))))
+is form order bytes ReadFault text h = absurd h
+is form order bytes WriteFault text h = absurd h
+is form order bytes Memory text h = absurd h
 
 record One (s t : Status) (text other : List ℕ) : Type 0 where
   same-status : s ≡ t
@@ -182,42 +190,56 @@ stop-one (Some s) (Some t) e =
 same-kind : (k j : LimitKind) → Some k ≡ Some j → k ≡ j
 same-kind k j e = cc
 
--- none of the four kinds of outcome goes with another
-module _ (order : ℕ) (bytes : List ℕ) where
+-- none of the five kinds of outcome goes with another
+module _ (form : Form) (order : ℕ) (bytes : List ℕ) where
   long-short : most_bytes < length bytes → length bytes ≤ most_bytes → ⊥
   long-short l s = omega (arith, l, s)
 
-  limited-done : (kind : LimitKind) (stop : Option (ℕ × StopCause)) (text : List ℕ) → PassesLimit order kind bytes → HasCompleted order stop bytes text → ⊥
-  limited-done kind stop text p c = none-some kind (sym c.within ∙ limit-one bytes c.file p.file order c.reads p.reads ∙ p.passed)
+  limited-done : (kind : LimitKind) (stop : Option (ℕ × StopCause)) (text : List ℕ) → PassesLimit form order kind bytes → HasCompleted form order stop bytes text → ⊥
+  limited-done kind stop text p c = none-some kind (sym c.within ∙ limit-one form bytes c.file p.file order c.reads p.reads ∙ p.passed)
 
-  one : (s t : Status) (text other : List ℕ) → order ≤ highest_order → Is order bytes s text → Is order bytes t other → One s t text other
+  one : (s t : Status) (text other : List ℕ) → order ≤ highest_order → Is form order bytes s text → Is form order bytes t other → One s t text other
   one s t text other low (inl a) (inl b) = record { same-status = a.1 ∙ sym b.1; same-text = a.2 ∙ sym b.2 }
   one s t text other low (inl a) (inr (inl b)) = absurd (long-short a.0 b.2)
-  one s t text other low (inl a) (inr (inr (inl b))) = absurd (long-short a.0 b.1.short)
-  one s t text other low (inl a) (inr (inr (inr b))) = absurd (long-short a.0 b.1.short)
+  one s t text other low (inl a) (inr (inr (inl b))) = absurd (long-short a.0 b.1)
+  one s t text other low (inl a) (inr (inr (inr (inl b)))) = absurd (long-short a.0 b.1.short)
+  one s t text other low (inl a) (inr (inr (inr (inr b)))) = absurd (long-short a.0 b.1.short)
   one s t text other low (inr (inl a)) (inl b) = absurd (long-short b.0 a.2)
   one s t text other low (inr (inl a)) (inr (inl b)) =
-      let e = fault_is_one bytes a.0 b.0 a.1 b.1 a.3 b.3 in
+      let e = bad_text-one form bytes a.0 b.0 a.1 b.1 a.3 b.3 in
       record {
         same-status = a.4 ∙ (λ i. Text (e.0 i) (e.1 i)) ∙ sym b.4;
         same-text = a.5 ∙ (λ i. bad_text (e.0 i) (e.1 i)) ∙ sym b.5;
       }
-  one s t text other low (inr (inl a)) (inr (inr (inl b))) = absurd (text_has_no_fault bytes b.1.file a.0 a.1 b.1.reads a.3)
-  one s t text other low (inr (inl a)) (inr (inr (inr b))) = absurd (text_has_no_fault bytes b.1.file a.0 a.1 b.1.reads a.3)
-  one s t text other low (inr (inr (inl a))) (inl b) = absurd (long-short b.0 a.1.short)
-  one s t text other low (inr (inr (inl a))) (inr (inl b)) = absurd (text_has_no_fault bytes a.1.file b.0 b.1 a.1.reads b.3)
+  one s t text other low (inr (inl a)) (inr (inr (inl b))) = absurd (bad-one form bytes a.0 a.1 b.0 a.3 b.2)
+  one s t text other low (inr (inl a)) (inr (inr (inr (inl b)))) = absurd (no-bad_text form bytes b.1.file a.0 a.1 b.1.reads a.3)
+  one s t text other low (inr (inl a)) (inr (inr (inr (inr b)))) = absurd (no-bad_text form bytes b.1.file a.0 a.1 b.1.reads a.3)
+  one s t text other low (inr (inr (inl a))) (inl b) = absurd (long-short b.0 a.1)
+  one s t text other low (inr (inr (inl a))) (inr (inl b)) = absurd (bad-one form bytes b.0 b.1 a.0 b.3 a.2)
   one s t text other low (inr (inr (inl a))) (inr (inr (inl b))) =
-      let e : a.0 ≡ b.0 = same-kind a.0 b.0 (sym a.1.passed ∙ limit-one bytes a.1.file b.1.file order a.1.reads b.1.reads ∙ b.1.passed) in
+      let e : a.0 ≡ b.0 = bad_json-one form bytes a.0 b.0 a.2 b.2 in
+      record {
+        same-status = a.3 ∙ ap (λ (k : JsonKind). Json k) e ∙ sym b.3;
+        same-text = a.4 ∙ ap (λ (k : JsonKind). bad_json_text k) e ∙ sym b.4;
+      }
+  one s t text other low (inr (inr (inl a))) (inr (inr (inr (inl b)))) = absurd (no-bad_json form bytes b.1.file a.0 b.1.reads a.2)
+  one s t text other low (inr (inr (inl a))) (inr (inr (inr (inr b)))) = absurd (no-bad_json form bytes b.1.file a.0 b.1.reads a.2)
+  one s t text other low (inr (inr (inr (inl a)))) (inl b) = absurd (long-short b.0 a.1.short)
+  one s t text other low (inr (inr (inr (inl a)))) (inr (inl b)) = absurd (no-bad_text form bytes a.1.file b.0 b.1 a.1.reads b.3)
+  one s t text other low (inr (inr (inr (inl a)))) (inr (inr (inl b))) = absurd (no-bad_json form bytes a.1.file b.0 a.1.reads b.2)
+  one s t text other low (inr (inr (inr (inl a)))) (inr (inr (inr (inl b)))) =
+      let e : a.0 ≡ b.0 = same-kind a.0 b.0 (sym a.1.passed ∙ limit-one form bytes a.1.file b.1.file order a.1.reads b.1.reads ∙ b.1.passed) in
       record {
         same-status = a.2 ∙ ap (λ (k : LimitKind). Limit k) e ∙ sym b.2;
         same-text = a.3 ∙ ap (λ (k : LimitKind). limit_fault_text k) e ∙ sym b.3;
       }
-  one s t text other low (inr (inr (inl a))) (inr (inr (inr b))) = absurd (limited-done a.0 (stop_of b.0) other a.1 b.1)
-  one s t text other low (inr (inr (inr a))) (inl b) = absurd (long-short b.0 a.1.short)
-  one s t text other low (inr (inr (inr a))) (inr (inl b)) = absurd (text_has_no_fault bytes a.1.file b.0 b.1 a.1.reads b.3)
-  one s t text other low (inr (inr (inr a))) (inr (inr (inl b))) = absurd (limited-done b.0 (stop_of a.0) text b.1 a.1)
-  one s t text other low (inr (inr (inr a))) (inr (inr (inr b))) =
-      let e = completed-one order bytes (stop_of a.0) (stop_of b.0) text other low a.1 b.1 in
+  one s t text other low (inr (inr (inr (inl a)))) (inr (inr (inr (inr b)))) = absurd (limited-done a.0 (stop_of b.0) other a.1 b.1)
+  one s t text other low (inr (inr (inr (inr a)))) (inl b) = absurd (long-short b.0 a.1.short)
+  one s t text other low (inr (inr (inr (inr a)))) (inr (inl b)) = absurd (no-bad_text form bytes a.1.file b.0 b.1 a.1.reads b.3)
+  one s t text other low (inr (inr (inr (inr a)))) (inr (inr (inl b))) = absurd (no-bad_json form bytes a.1.file b.0 a.1.reads b.2)
+  one s t text other low (inr (inr (inr (inr a)))) (inr (inr (inr (inl b)))) = absurd (limited-done b.0 (stop_of a.0) text b.1 a.1)
+  one s t text other low (inr (inr (inr (inr a)))) (inr (inr (inr (inr b)))) =
+      let e = completed-one form order bytes (stop_of a.0) (stop_of b.0) text other low a.1 b.1 in
       record { same-status = a.2 ∙ stop-one a.0 b.0 e.stops ∙ sym b.2; same-text = e.texts }
 
 -- ---- `generate`
@@ -229,6 +251,7 @@ is-summed : (number : ℕ) (s : Status) (text : List ℕ) → IsGenerateOutcome 
 is-summed number Done text h = (None, h, refl)
 is-summed number Words text h = absurd h
 is-summed number (Text line kind) text h = absurd h
+is-summed number (Json kind) text h = absurd h
 is-summed number (Limit kind) text h = absurd h
 is-summed number (Stopped at cause) text h = (Some (at, cause), h, refl)
 is-summed number ReadFault text h = absurd h
@@ -249,8 +272,8 @@ record IsOneJob (job : Job) : Type 0 where
   one : (bytes : List ℕ) (s t : Status) (text other : List ℕ) → IsJobOutcome job bytes s text → IsJobOutcome job bytes t other → One s t text other
 
 job-one : (words : List (List ℕ)) (job : Job) → AreWordsOf words job → IsOneJob job
-job-one words (Complete order workers) a = record {
-  one = λ bytes s t text other x y. one order bytes s t text other a.order_most (is order bytes s text x) (is order bytes t other y);
+job-one words (Complete form order workers) a = record {
+  one = λ bytes s t text other x y. one form order bytes s t text other a.order_most (is form order bytes s text x) (is form order bytes t other y);
 }
 job-one words (Generate number) a = record {
   one = λ bytes s t text other x y. summary-one number s t text other (is-summed number s text x) (is-summed number t other y);
@@ -266,6 +289,7 @@ job-or-none : (words : List (List ℕ)) (bytes : List ℕ) (s : Status) (text : 
 job-or-none words bytes Done text h = inr h
 job-or-none words bytes Words text h = inl (h.0, refl, h.1)
 job-or-none words bytes (Text line kind) text h = inr h
+job-or-none words bytes (Json kind) text h = inr h
 job-or-none words bytes (Limit kind) text h = inr h
 job-or-none words bytes (Stopped at cause) text h = inr h
 job-or-none words bytes ReadFault text h = inr h

@@ -8,11 +8,12 @@ use Rattle.scatter_text.specs.declared.fault.LimitKind.TheVariants.{Bytes}
 use Rattle.scatter_run.specs.declared.words.Job.{Job}
 use Rattle.scatter_run.specs.declared.words.Job.TheVariants.{Complete, Generate}
 use Rattle.scatter_run.specs.declared.status.Status.{Status}
-use Rattle.scatter_run.specs.declared.status.Status.TheVariants.{Done, Words, Text, Limit, Stopped, ReadFault, WriteFault, Memory}
+use Rattle.scatter_run.specs.declared.status.Status.TheVariants.{Done, Words, Text, Json, Limit, Stopped, ReadFault, WriteFault, Memory}
+use Rattle.scatter_run.specs.declared.form.Form.{Form}
 use Rattle.scatter_run.specs.Words.{AreWordsOf, NameNoJob}
 use Rattle.scatter_run.specs.Reading.{IsReadWhole, IsTooLong}
 use Rattle.scatter_run.specs.Writing.{IsWritten, IsCutShort}
-use Rattle.scatter_run.specs.Outcome.{IsCompleteOutcome, IsLimited, IsAccepted, IsGenerateOutcome, IsUnstopped, IsJobOutcome, IsJobAccepted, SaysJobRead, IsRunOutcome, IsRunAccepted, SaysRunRead, IsVerdict, SaysRead, SaysNothing, read_fault_text, words_fault_text, limit_fault_text}
+use Rattle.scatter_run.specs.Outcome.{IsFormOutcome, IsLimited, IsFormAccepted, IsGenerateOutcome, IsUnstopped, IsJobOutcome, IsJobAccepted, SaysJobRead, IsRunOutcome, IsRunAccepted, SaysRunRead, IsVerdict, SaysRead, SaysNothing, read_fault_text, words_fault_text, limit_fault_text}
 use Rattle.scatter_run.specs.Promise.{IsKept, IsDue, IsGiven}
 use Rattle.scatter_run.proofs.WordLists.{one-job}
 
@@ -154,77 +155,80 @@ module _ (Answers : List ℕ → Status → List ℕ → Type 0) (Accepts : List
   verdict_kept sole status result text small v a (inr g) =
       subst (λ (s : Status). IsKept Answers Accepts Says left rest f f' held after k k' s) (sym g.0) (cut_kept text small (due-of status text a) g.1 g.2)
 
--- ---- `complete`
+-- ---- a completion in a form
 
 pub read-verdict : (status : Status) → SaysRead status → IsVerdict status
 read-verdict Done says = tt
 read-verdict Words says = absurd says
 read-verdict (Text line kind) says = tt
+read-verdict (Json kind) says = tt
 read-verdict (Limit kind) says = tt
 read-verdict (Stopped at cause) says = tt
 read-verdict ReadFault says = absurd says
 read-verdict WriteFault says = absurd says
 read-verdict Memory says = absurd says
 
-pub complete-sole : (order : ℕ) (bytes : List ℕ) (status : Status) (text : List ℕ) → IsCompleteOutcome order bytes status text → IsAccepted order bytes → status ≡ Done
-complete-sole order bytes Done text t ok = refl
-complete-sole order bytes Words text t ok = absurd t
-complete-sole order bytes (Text line kind) text t ok = absurd (ok.no_fault line kind t.fault)
-complete-sole order bytes (Limit kind) text t ok = absurd (passes t.0)
+pub form-sole : (form : Form) (order : ℕ) (bytes : List ℕ) (status : Status) (text : List ℕ) → IsFormOutcome form order bytes status text → IsFormAccepted form order bytes → status ≡ Done
+form-sole form order bytes Done text t ok = refl
+form-sole form order bytes Words text t ok = absurd t
+form-sole form order bytes (Text line kind) text t ok = absurd (ok.no_text_fault line kind t.fault)
+form-sole form order bytes (Json kind) text t ok = absurd (ok.no_json_fault kind t.fault)
+form-sole form order bytes (Limit kind) text t ok = absurd (passes t.0)
   where
-    passes : IsLimited order kind bytes → ⊥
+    passes : IsLimited form order kind bytes → ⊥
     passes (inl h) = let long = h.1 in let short = ok.short in omega (arith, long, short)
     passes (inr p) = none-some kind (sym (ok.no_limit p.file p.reads) ∙ p.passed)
-complete-sole order bytes (Stopped at cause) text t ok =
+form-sole form order bytes (Stopped at cause) text t ok =
     absurd (ok.no_stop t.file t.completed.last.given (at, cause_of cause) t.reads t.completed.last.lines t.completed.last.first)
-complete-sole order bytes ReadFault text t ok = absurd t
-complete-sole order bytes WriteFault text t ok = absurd t
-complete-sole order bytes Memory text t ok = absurd t
+form-sole form order bytes ReadFault text t ok = absurd t
+form-sole form order bytes WriteFault text t ok = absurd t
+form-sole form order bytes Memory text t ok = absurd t
 
-pub complete-verdict : (order : ℕ) (bytes : List ℕ) (status : Status) (text : List ℕ) → IsCompleteOutcome order bytes status text → IsVerdict status
-complete-verdict order bytes Done text t = tt
-complete-verdict order bytes Words text t = tt
-complete-verdict order bytes (Text line kind) text t = tt
-complete-verdict order bytes (Limit kind) text t = tt
-complete-verdict order bytes (Stopped at cause) text t = tt
-complete-verdict order bytes ReadFault text t = absurd t
-complete-verdict order bytes WriteFault text t = absurd t
-complete-verdict order bytes Memory text t = absurd t
+pub form-verdict : (form : Form) (order : ℕ) (bytes : List ℕ) (status : Status) (text : List ℕ) → IsFormOutcome form order bytes status text → IsVerdict status
+form-verdict form order bytes Done text t = tt
+form-verdict form order bytes Words text t = tt
+form-verdict form order bytes (Text line kind) text t = tt
+form-verdict form order bytes (Json kind) text t = tt
+form-verdict form order bytes (Limit kind) text t = tt
+form-verdict form order bytes (Stopped at cause) text t = tt
+form-verdict form order bytes ReadFault text t = absurd t
+form-verdict form order bytes WriteFault text t = absurd t
+form-verdict form order bytes Memory text t = absurd t
 
-pub complete-not_words : (order : ℕ) (bytes : List ℕ) (status result : Status) (text : List ℕ) (held after : Option (List ℕ)) (k k' : ℕ)
-    → IsCompleteOutcome order bytes status text → IsGiven held after k k' status text result → result ≡ Words → ⊥
-complete-not_words order bytes status result text held after k k' t (inl g) e = subst (λ (s : Status). IsCompleteOutcome order bytes s text) (sym g.0 ∙ e) t
-complete-not_words order bytes status result text held after k k' t (inr g) e = differ (sym g.0 ∙ e)
+pub form-not_words : (form : Form) (order : ℕ) (bytes : List ℕ) (status result : Status) (text : List ℕ) (held after : Option (List ℕ)) (k k' : ℕ)
+    → IsFormOutcome form order bytes status text → IsGiven held after k k' status text result → result ≡ Words → ⊥
+form-not_words form order bytes status result text held after k k' t (inl g) e = subst (λ (s : Status). IsFormOutcome form order bytes s text) (sym g.0 ∙ e) t
+form-not_words form order bytes status result text held after k k' t (inr g) e = differ (sym g.0 ∙ e)
   where
     differ : WriteFault ≡ Words → ⊥
     differ d = cc
 
-pub read-answered : (order : ℕ) (left rest : Option (List ℕ)) (bytes : List ℕ) (status : Status) (text : List ℕ) → IsReadWhole left rest bytes → IsCompleteOutcome order bytes status text
-    → IfSome left (λ bytes. IsCompleteOutcome order bytes status text × (SaysRead status → rest ≡ Some []))
-read-answered order None rest bytes status text whole t = tt
-read-answered order (Some all) rest bytes status text whole t =
-    (subst (λ (b : List ℕ). IsCompleteOutcome order b status text) (sym whole.0) t, λ says. whole.1)
+pub read-answered : (form : Form) (order : ℕ) (left rest : Option (List ℕ)) (bytes : List ℕ) (status : Status) (text : List ℕ) → IsReadWhole left rest bytes → IsFormOutcome form order bytes status text
+    → IfSome left (λ bytes. IsFormOutcome form order bytes status text × (SaysRead status → rest ≡ Some []))
+read-answered form order None rest bytes status text whole t = tt
+read-answered form order (Some all) rest bytes status text whole t =
+    (subst (λ (b : List ℕ). IsFormOutcome form order b status text) (sym whole.0) t, λ says. whole.1)
 
-pub long-answered : (order : ℕ) (left rest : Option (List ℕ)) → IsTooLong left
-    → IfSome left (λ bytes. IsCompleteOutcome order bytes (Limit Bytes) (limit_fault_text Bytes) × (SaysRead (Limit Bytes) → rest ≡ Some []))
-long-answered order None rest long = tt
-long-answered order (Some bytes) rest long = ((inl (refl, long), refl), λ says. absurd (says refl))
+pub long-answered : (form : Form) (order : ℕ) (left rest : Option (List ℕ)) → IsTooLong left
+    → IfSome left (λ bytes. IsFormOutcome form order bytes (Limit Bytes) (limit_fault_text Bytes) × (SaysRead (Limit Bytes) → rest ≡ Some []))
+long-answered form order None rest long = tt
+long-answered form order (Some bytes) rest long = ((inl (refl, long), refl), λ says. absurd (says refl))
 
-pub answer_kept : (order : ℕ) (left rest : Option (List ℕ)) (f f' : ℕ) (held after : Option (List ℕ)) (k k' : ℕ) (bytes seen text said : List ℕ) (status result : Status)
-    → k < 2 ^ 64 - 1 → IsReadWhole left rest bytes → seen ≡ bytes → IsCompleteOutcome order seen status text → said ≡ text → IsGiven held after k k' status said result
-    → IsKept (IsCompleteOutcome order) (IsAccepted order) SaysRead left rest f f' held after k k' result
-answer_kept order left rest f f' held after k k' bytes seen text said status result small whole e t e' g =
-    verdict_kept (IsCompleteOutcome order) (IsAccepted order) SaysRead read-verdict left rest f f' held after k k' (complete-sole order) status result said small
-    (complete-verdict order seen status text t)
-    (read-answered order left rest bytes status said whole
-    (subst (λ (b : List ℕ). IsCompleteOutcome order b status said) e (subst (λ (x : List ℕ). IsCompleteOutcome order seen status x) (sym e') t))) g
+pub answer_kept : (form : Form) (order : ℕ) (left rest : Option (List ℕ)) (f f' : ℕ) (held after : Option (List ℕ)) (k k' : ℕ) (bytes seen text said : List ℕ) (status result : Status)
+    → k < 2 ^ 64 - 1 → IsReadWhole left rest bytes → seen ≡ bytes → IsFormOutcome form order seen status text → said ≡ text → IsGiven held after k k' status said result
+    → IsKept (IsFormOutcome form order) (IsFormAccepted form order) SaysRead left rest f f' held after k k' result
+answer_kept form order left rest f f' held after k k' bytes seen text said status result small whole e t e' g =
+    verdict_kept (IsFormOutcome form order) (IsFormAccepted form order) SaysRead read-verdict left rest f f' held after k k' (form-sole form order) status result said small
+    (form-verdict form order seen status text t)
+    (read-answered form order left rest bytes status said whole
+    (subst (λ (b : List ℕ). IsFormOutcome form order b status said) e (subst (λ (x : List ℕ). IsFormOutcome form order seen status x) (sym e') t))) g
 
-pub long_kept : (order : ℕ) (left rest : Option (List ℕ)) (f f' : ℕ) (held after : Option (List ℕ)) (k k' : ℕ) (result : Status)
+pub long_kept : (form : Form) (order : ℕ) (left rest : Option (List ℕ)) (f f' : ℕ) (held after : Option (List ℕ)) (k k' : ℕ) (result : Status)
     → k < 2 ^ 64 - 1 → IsTooLong left → IsGiven held after k k' (Limit Bytes) (limit_fault_text Bytes) result
-    → IsKept (IsCompleteOutcome order) (IsAccepted order) SaysRead left rest f f' held after k k' result
-long_kept order left rest f f' held after k k' result small long g =
-    verdict_kept (IsCompleteOutcome order) (IsAccepted order) SaysRead read-verdict left rest f f' held after k k' (complete-sole order) (Limit Bytes) result (limit_fault_text Bytes) small tt
-    (long-answered order left rest long) g
+    → IsKept (IsFormOutcome form order) (IsFormAccepted form order) SaysRead left rest f f' held after k k' result
+long_kept form order left rest f f' held after k k' result small long g =
+    verdict_kept (IsFormOutcome form order) (IsFormAccepted form order) SaysRead read-verdict left rest f f' held after k k' (form-sole form order) (Limit Bytes) result (limit_fault_text Bytes) small tt
+    (long-answered form order left rest long) g
 
 -- ---- `generate`
 
@@ -232,6 +236,7 @@ generate-sole : (number : ℕ) (status : Status) (text : List ℕ) → IsGenerat
 generate-sole number Done text t ok = refl
 generate-sole number Words text t ok = absurd t
 generate-sole number (Text line kind) text t ok = absurd t
+generate-sole number (Json kind) text t ok = absurd t
 generate-sole number (Limit kind) text t ok = absurd t
 generate-sole number (Stopped at cause) text t ok = absurd (ok t.last.given (at, cause_of cause) t.last.lines t.last.first)
 generate-sole number ReadFault text t ok = absurd t
@@ -242,6 +247,7 @@ generate-verdict : (number : ℕ) (status : Status) (text : List ℕ) → IsGene
 generate-verdict number Done text t = tt
 generate-verdict number Words text t = tt
 generate-verdict number (Text line kind) text t = tt
+generate-verdict number (Json kind) text t = tt
 generate-verdict number (Limit kind) text t = tt
 generate-verdict number (Stopped at cause) text t = tt
 generate-verdict number ReadFault text t = absurd t
@@ -298,15 +304,15 @@ says-same : (words : List (List ℕ)) (job other : Job) (status : Status) → Ar
 says-same words job other status a b says = subst (λ (j : Job). SaysJobRead j status) (one-job words job other a b) says
 
 job-sole : (job : Job) (bytes : List ℕ) (status : Status) (text : List ℕ) → IsJobOutcome job bytes status text → IsJobAccepted job bytes → status ≡ Done
-job-sole (Complete o w) bytes status text t ok = complete-sole o bytes status text t ok
+job-sole (Complete f o w) bytes status text t ok = form-sole f o bytes status text t ok
 job-sole (Generate n) bytes status text t ok = generate-sole n status text t ok
 
 job-not_words : (job : Job) (bytes text : List ℕ) → IsJobOutcome job bytes Words text → ⊥
-job-not_words (Complete o w) bytes text t = t
+job-not_words (Complete f o w) bytes text t = t
 job-not_words (Generate n) bytes text t = t
 
 job-verdict : (job : Job) (status : Status) → SaysJobRead job status → IsVerdict status
-job-verdict (Complete o w) status says = read-verdict status says
+job-verdict (Complete f o w) status says = read-verdict status says
 job-verdict (Generate n) status says = absurd says
 
 pub run-verdict : (words : List (List ℕ)) (status : Status) → SaysRunRead words status → IsVerdict status
@@ -314,7 +320,7 @@ run-verdict words status says = job-verdict says.0 status says.2
 
 -- none says that it read where the words are refused
 job-reads_words : (job : Job) → SaysJobRead job Words → ⊥
-job-reads_words (Complete o w) says = says
+job-reads_words (Complete f o w) says = says
 job-reads_words (Generate n) says = says
 
 -- ---- the words
@@ -323,6 +329,7 @@ run-sole : (words : List (List ℕ)) (bytes : List ℕ) (status : Status) (text 
 run-sole words bytes Words text t ok = absurd (t.0 ok.0 ok.1)
 run-sole words bytes Done text t ok = refl
 run-sole words bytes (Text line kind) text t ok = job-sole ok.0 bytes (Text line kind) text (outcome-same words ok.0 t.0 bytes (Text line kind) text ok.1 t.1 t.2) ok.2
+run-sole words bytes (Json kind) text t ok = job-sole ok.0 bytes (Json kind) text (outcome-same words ok.0 t.0 bytes (Json kind) text ok.1 t.1 t.2) ok.2
 run-sole words bytes (Limit kind) text t ok = job-sole ok.0 bytes (Limit kind) text (outcome-same words ok.0 t.0 bytes (Limit kind) text ok.1 t.1 t.2) ok.2
 run-sole words bytes (Stopped at cause) text t ok = job-sole ok.0 bytes (Stopped at cause) text (outcome-same words ok.0 t.0 bytes (Stopped at cause) text ok.1 t.1 t.2) ok.2
 run-sole words bytes ReadFault text t ok = job-sole ok.0 bytes ReadFault text (outcome-same words ok.0 t.0 bytes ReadFault text ok.1 t.1 t.2) ok.2
@@ -334,6 +341,7 @@ run-outcome : (words : List (List ℕ)) (job : Job) (bytes : List ℕ) (status :
 run-outcome words job bytes Words text a h = absurd (job-not_words job bytes text h)
 run-outcome words job bytes Done text a h = (job, a, h)
 run-outcome words job bytes (Text line kind) text a h = (job, a, h)
+run-outcome words job bytes (Json kind) text a h = (job, a, h)
 run-outcome words job bytes (Limit kind) text a h = (job, a, h)
 run-outcome words job bytes (Stopped at cause) text a h = (job, a, h)
 run-outcome words job bytes ReadFault text a h = (job, a, h)

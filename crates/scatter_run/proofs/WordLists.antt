@@ -7,6 +7,9 @@ use Rattle.std.proofs.lemmas.Fmt.{decimal_by_steps, decimal_injective}
 use Rattle.clap.specs.Lexer.{strip_byte}
 use Rattle.scatter_run.specs.CommandLine.{begins_with_hyphen, command_line}
 use Rattle.clap.specs.Words.{takes}
+use Rattle.scatter_run.specs.Form.{form_word}
+use Rattle.scatter_run.specs.declared.form.Form.{Form}
+use Rattle.scatter_run.specs.declared.form.Form.TheVariants as form
 use Rattle.scatter_run.specs.Words.{AreCompleteWords, AreGenerateWords, AreWordsOf, NameNoJob}
 use Rattle.scatter_run.specs.declared.words.Job.{Job}
 use Rattle.scatter_run.specs.declared.words.Job.TheVariants.{Complete, Generate}
@@ -20,13 +23,13 @@ if-none (Some a) P p = tt
 
 -- each job has a word, and one or two numbers
 pub names-none : (words : List (List ℕ)) → (length words ≡ 2 → ⊥) → (length words ≡ 3 → ⊥) → NameNoJob words
-names-none words two three (Complete o w) a = three (ap length a.words)
+names-none words two three (Complete f o w) a = three (ap length a.words)
 names-none words two three (Generate n) a = two (ap length a.words)
 
 -- ---- words name one job
 
-apart : (words : List (List ℕ)) (o w n : ℕ) → AreCompleteWords words o w → AreGenerateWords words n → ⊥
-apart words o w n a b =
+apart : (words : List (List ℕ)) (f : Form) (o w n : ℕ) → AreCompleteWords words f o w → AreGenerateWords words n → ⊥
+apart words f o w n a b =
     let l : length words ≡ 3 = ap length a.words in
     let k : length words ≡ 2 = ap length b.words in
     omega (arith, l, k)
@@ -37,16 +40,29 @@ same-number words n m a b =
     let x = a.number_most in let y = b.number_most in
     decimal_injective n m (omega (arith, x)) (omega (arith, y)) cc
 
+-- each form has a word of its own
+form-one : (f g : Form) → form_word f ≡ form_word g → f ≡ g
+form-one form.Text form.Text e = refl
+form-one form.Text form.Json e = let l : 8 ≡ 13 = ap length e in absurd (omega (arith, l))
+form-one form.Json form.Text e = let l : 13 ≡ 8 = ap length e in absurd (omega (arith, l))
+form-one form.Json form.Json e = refl
+form-one form.Text form.Asks e = let l : 8 ≡ 5 = ap length e in absurd (omega (arith, l))
+form-one form.Json form.Asks e = let l : 13 ≡ 5 = ap length e in absurd (omega (arith, l))
+form-one form.Asks form.Text e = let l : 5 ≡ 8 = ap length e in absurd (omega (arith, l))
+form-one form.Asks form.Json e = let l : 5 ≡ 13 = ap length e in absurd (omega (arith, l))
+form-one form.Asks form.Asks e = refl
+
 pub one-job : (words : List (List ℕ)) (job other : Job) → AreWordsOf words job → AreWordsOf words other → other ≡ job
-one-job words (Complete o w) (Complete o' w') a b =
-    let e : codes "complete" ∷ decimal o' ∷ decimal w' ∷ [] ≡ codes "complete" ∷ decimal o ∷ decimal w ∷ [] = sym b.words ∙ a.words in
+one-job words (Complete f o w) (Complete f' o' w') a b =
+    let e : form_word f' ∷ decimal o' ∷ decimal w' ∷ [] ≡ form_word f ∷ decimal o ∷ decimal w ∷ [] = sym b.words ∙ a.words in
     let x = a.order_most in let y = b.order_most in
     let u = a.workers_most in let v = b.workers_most in
-    let f : o' ≡ o = decimal_injective o' o (omega (arith, y)) (omega (arith, x)) cc in
-    let g : w' ≡ w = decimal_injective w' w (omega (arith, v)) (omega (arith, u)) cc in
-    λ i. Complete (f i) (g i)
-one-job words (Complete o w) (Generate n) a b = absurd (apart words o w n a b)
-one-job words (Generate n) (Complete o w) a b = absurd (apart words o w n b a)
+    let h : f' ≡ f = form-one f' f cc in
+    let g : o' ≡ o = decimal_injective o' o (omega (arith, y)) (omega (arith, x)) cc in
+    let k : w' ≡ w = decimal_injective w' w (omega (arith, v)) (omega (arith, u)) cc in
+    λ i. Complete (h i) (g i) (k i)
+one-job words (Complete f o w) (Generate n) a b = absurd (apart words f o w n a b)
+one-job words (Generate n) (Complete f o w) a b = absurd (apart words f o w n b a)
 one-job words (Generate n) (Generate m) a b = ap (λ (k : ℕ). Generate k) (same-number words m n b a)
 
 -- ---- no job's word begins with a hyphen
@@ -70,18 +86,23 @@ decimal-begins = decimal_by_steps (λ (n : ℕ) (ds : List ℕ). BeginsPlain ds)
 decimal-plain : (n : ℕ) → n < 2 ^ 64 → IsPlain (decimal n)
 decimal-plain n l = subst IsPlain (append-nil (decimal n)) (decimal-begins n l [])
 
+form-plain : (f : Form) → IsPlain (form_word f)
+form-plain form.Text = refl
+form-plain form.Json = refl
+form-plain form.Asks = refl
+
 pub job-plain : (words : List (List ℕ)) (job : Job) → AreWordsOf words job → ArePlain words
-job-plain words (Complete o w) a =
+job-plain words (Complete f o w) a =
     let x = a.order_most in let y = a.workers_most in
-    subst ArePlain (sym a.words) (refl, (decimal-plain o (omega (arith, x)), (decimal-plain w (omega (arith, y)), tt)))
+    subst ArePlain (sym a.words) (form-plain f, (decimal-plain o (omega (arith, x)), (decimal-plain w (omega (arith, y)), tt)))
 job-plain words (Generate n) a =
     let x = a.number_most in
     subst ArePlain (sym a.words) (refl, (decimal-plain n (omega (arith, x)), tt))
 
 pub job-taken : (words : List (List ℕ)) (job : Job) → AreWordsOf words job → takes command_line words ≡ true
-job-taken words (Complete o w) a =
-    let p = subst ArePlain a.words (job-plain words (Complete o w) a) in
-    subst (λ (ws : List (List ℕ)). takes command_line ws ≡ true) (sym a.words) (taken (codes "complete") (decimal o ∷ decimal w ∷ []) p.0 p.1 refl)
+job-taken words (Complete f o w) a =
+    let p = subst ArePlain a.words (job-plain words (Complete f o w) a) in
+    subst (λ (ws : List (List ℕ)). takes command_line ws ≡ true) (sym a.words) (taken (form_word f) (decimal o ∷ decimal w ∷ []) p.0 p.1 refl)
 job-taken words (Generate n) a =
     let p = subst ArePlain a.words (job-plain words (Generate n) a) in
     subst (λ (ws : List (List ℕ)). takes command_line ws ≡ true) (sym a.words) (taken (codes "generate") (decimal n ∷ []) p.0 p.1 refl)

@@ -1,6 +1,6 @@
 -- What jobs print of a completion.
 --     IsLastCompletion rows k stop e     e is the completion of these lines at order k, or at the last order before the first stop
---     IsCompletedText                    what `complete` prints of a file
+--     IsCompletedText                    what `complete`, `complete-json` and `theta` print of a file
 --     IsSummary                          what `generate` prints of a number
 use Rattle.std.specs.Prelude.{◌≡◌, ℕ, List, pos, Option}
 use Rattle.std.specs.List.{AllZip}
@@ -9,8 +9,9 @@ use Rattle.scattering.specs.Completion.{IsCompletion}
 use Rattle.scattering.specs.Stops.{StopCause, IsFirstStop, last_before}
 use Rattle.scatter_text.specs.declared.file.LineRow.{LineRow}
 use Rattle.scatter_text.specs.declared.file.TextFile.{TextFile}
-use Rattle.scatter_text.specs.DiagramText.{IsDiagramText}
 use Rattle.scatter_text.specs.GivenWalls.{IsWallOf}
+use Rattle.scatter_run.specs.Form.{IsPrintedIn}
+use Rattle.scatter_run.specs.declared.form.Form.{Form}
 use Rattle.scatter_run.specs.Generated.{generated_lines, generated_order, summary_text}
 
 -- a completion of the walls that the lines stand for: at the order that is asked, or at the last one before the first stop
@@ -20,13 +21,13 @@ pub record IsLastCompletion (rows : List LineRow) (order : ℕ) (stop : Option (
   pub first : IsFirstStop given order stop
   pub completion : IsCompletion given (last_before order stop) e
 
--- the text of the last completion of the file's lines
-pub record IsCompletedText (file : TextFile) (order : ℕ) (stop : Option (ℕ × StopCause)) (text : List ℕ) : Type 0 where
+-- what is printed in this form of the last completion of the file's lines
+pub record IsCompletedText (form : Form) (file : TextFile) (order : ℕ) (stop : Option (ℕ × StopCause)) (text : List ℕ) : Type 0 where
   pub vars : ℕ
   pub diagram : Diagram
   pub variables : file.vars ≡ pos vars
   pub last : IsLastCompletion file.lines order stop diagram
-  pub printed : IsDiagramText vars (last_before order stop) diagram stop text
+  pub printed : IsPrintedIn form file.asks vars (last_before order stop) diagram stop text
 
 -- the counts of the last completion of the lines that are made from the number
 pub record IsSummary (number : ℕ) (stop : Option (ℕ × StopCause)) (text : List ℕ) : Type 0 where

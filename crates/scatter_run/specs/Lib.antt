@@ -1,4 +1,6 @@
+pub mod Asked
 pub mod Completed
+pub mod Form
 pub mod Generated
 pub mod Outcome
 pub mod Promise

@@ -2,6 +2,8 @@
 use Rattle.std.specs.Prelude.{◌≡◌, ℕ, ◌≤◌, List, [], ◌∷◌, map, codes, decimal, String, string_bytes}
 use Rattle.std.specs.declared.alloc.Global.{Global}
 use Rattle.limits.specs.Limits.{highest_order, most_workers}
+use Rattle.scatter_run.specs.Form.{form_word}
+use Rattle.scatter_run.specs.declared.form.Form.{Form}
 use Rattle.scatter_run.specs.declared.words.Job.{Job}
 use Rattle.scatter_run.specs.declared.words.Job.TheVariants.{Complete, Generate}
 
@@ -12,9 +14,9 @@ largest_number = 1000000
 abbrev pub word_bytes : List (String Global) → List (List ℕ)
 word_bytes words = map (λ w. string_bytes w) words
 
--- `complete ORDER WORKERS`, each number in decimal without a leading zero or a sign
-pub record AreCompleteWords (given : List (List ℕ)) (order workers : ℕ) : Type 0 where
-  pub words : given ≡ codes "complete" ∷ decimal order ∷ decimal workers ∷ []
+-- `complete ORDER WORKERS`, `complete-json ORDER WORKERS` or `theta ORDER WORKERS`, by the form, each number in decimal without a leading zero or a sign
+pub record AreCompleteWords (given : List (List ℕ)) (form : Form) (order workers : ℕ) : Type 0 where
+  pub words : given ≡ form_word form ∷ decimal order ∷ decimal workers ∷ []
   pub order_most : order ≤ highest_order
   pub workers_least : 1 ≤ workers
   pub workers_most : workers ≤ most_workers
@@ -27,7 +29,7 @@ pub record AreGenerateWords (given : List (List ℕ)) (number : ℕ) : Type 0 wh
 
 -- the table of words: those of each job
 abbrev pub AreWordsOf : List (List ℕ) → Job → Type 0
-AreWordsOf words (Complete order workers) = AreCompleteWords words order workers
+AreWordsOf words (Complete form order workers) = AreCompleteWords words form order workers
 AreWordsOf words (Generate number) = AreGenerateWords words number
 
 -- the words are those of no job

@@ -1,12 +1,14 @@
-//! What `complete` answers on the bytes of its input.
+//! What a completion answers on the bytes of its input.
 ghost use Rattle.std.specs.Prelude.{◌≡◌, ◌≤◌, length, IfOk, string_bytes};
 ghost use Rattle.limits.specs.Limits.{highest_order, most_bytes, most_workers};
-ghost use Rattle.scatter_run.specs.Outcome.{IsCompleteOutcome, bad_text, limit_fault_text};
+ghost use Rattle.scatter_run.specs.Outcome.{IsFormOutcome, bad_text, bad_json_text, limit_fault_text};
 
 use crate::completing::complete;
+use crate::form::{FileFault, Form, read_file};
 use crate::status::Status;
 use outside_io::Gate;
-use scatter_text::{LimitKind, TextFault, TextKind, TextMode, check_limits, read_text};
+use scatter_json::JsonKind;
+use scatter_text::{LimitKind, TextKind, check_limits};
 use std::alloc::{AllocError, Global};
 use std::thread::Threads;
 
@@ -17,10 +19,11 @@ pub(crate) struct Answer {
     pub(crate) text: Vec<u8>,
 }
 
-/// What `complete` answers on these bytes.
+/// What a completion answers on these bytes, which are in this form.
 pub(crate) fn answer_to<R: Threads + Sync, G: Gate>(
     rt: &R,
     alloc: Global,
+    form: Form,
     order: u32,
     workers: u32,
     bytes: &[u8],
@@ -30,21 +33,25 @@ pub(crate) fn answer_to<R: Threads + Sync, G: Gate>(
     requires order { order ≤ highest_order }
     requires some { 1 ≤ workers }
     requires few { workers ≤ most_workers }
-    ensures { IfOk result (λ a. IsCompleteOutcome order bytes.now a.status a.text.items) }
+    ensures { IfOk result (λ a. IsFormOutcome form order bytes.now a.status a.text.items) }
 {
-    match read_text(alloc, bytes, TextMode::Lines) {
+    match read_file(alloc, form, bytes) {
         Ok(file) => match check_limits(&file, order, 1) {
-            None => complete(rt, alloc, &file, order, workers, gate),
+            None => complete(rt, alloc, form, &file, order, workers, gate),
             Some(which) => Ok(Answer {
                 status: Status::Limit { which },
                 text: limit_fault(alloc, which)?.into_bytes(),
             }),
         },
-        Err(TextFault::Bad { line, kind }) => Ok(Answer {
+        Err(FileFault::Text { line, kind }) => Ok(Answer {
             status: Status::Text { line, kind },
             text: text_fault(alloc, line, kind)?.into_bytes(),
         }),
-        Err(TextFault::Memory) => Err(AllocError),
+        Err(FileFault::Json { kind }) => Ok(Answer {
+            status: Status::Json { kind },
+            text: json_fault(alloc, kind)?.into_bytes(),
+        }),
+        Err(FileFault::Memory) => Err(AllocError),
     }
 }
 
@@ -58,6 +65,14 @@ fn text_fault(alloc: Global, line: u32, kind: TextKind) -> Result<String, AllocE
     text.push_str(kind.word())?;
     text.push_str("\n")?;
     Ok(text)
+}
+
+/// The line of a bad JSON text.
+fn json_fault(alloc: Global, kind: JsonKind) -> Result<String, AllocError>
+    ensures { IfOk result (λ text. string_bytes text ≡ bad_json_text kind) }
+{
+    let word = kind.word();
+    format!(in alloc; "fault json {word}\n")
 }
 
 /// The line of a limit that is passed.

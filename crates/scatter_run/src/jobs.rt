@@ -3,10 +3,11 @@ ghost use Rattle.std.specs.Prelude.{◌≡◌, ℕ, ◌≤◌, ◌<◌, ◌-◌,
 ghost use Rattle.limits.specs.Limits.{highest_order, most_workers};
 ghost use Rattle.scatter_run.specs.Words.{AreGenerateWords, NameNoJob, word_bytes};
 ghost use Rattle.scatter_run.specs.Writing.{IsWritten, IsCutShort};
-ghost use Rattle.scatter_run.specs.Outcome.{IsCompleteOutcome, IsAccepted, SaysRead, IsGenerateOutcome, IsUnstopped, IsRunOutcome, IsRunAccepted, SaysRunRead, words_fault_text};
+ghost use Rattle.scatter_run.specs.Outcome.{IsFormOutcome, IsFormAccepted, IsCompleteOutcome, IsAccepted, IsJsonOutcome, IsJsonAccepted, IsThetaOutcome, IsThetaAccepted, SaysRead, IsGenerateOutcome, IsUnstopped, IsRunOutcome, IsRunAccepted, SaysRunRead, words_fault_text};
 ghost use Rattle.scatter_run.specs.Promise.{KeepsPromise, KeepsPromiseUnread, IsUntouched, IsOnlyOutcome, IsGiven};
 
 use crate::answer::answer_to;
+use crate::form::Form;
 use crate::generating::generate;
 use crate::reading::{InputFault, read_input};
 use crate::status::Status;
@@ -59,9 +60,15 @@ pub fn run<R: Threads + Sync, S: Source, K: Sink, G: Gate>(
         → IsCutShort (K.held sink.old) (K.held sink.new) words_fault_text }
 {
     match read_words(alloc, words) {
-        Ok(Some(Job::Complete { order, workers })) => {
-            complete_job(rt, alloc, order, workers, source, sink, gate)
-        }
+        Ok(
+            Some(
+                Job::Complete {
+                    form,
+                    order,
+                    workers,
+                },
+            ),
+        ) => form_job(rt, alloc, form, order, workers, source, sink, gate),
         Ok(Some(Job::Generate { number })) => generate_job(rt, alloc, number, sink, gate),
         Ok(None) => give(sink, Status::Words, b"fault words\n"),
         Err(_) => Status::Memory,
@@ -90,8 +97,83 @@ pub fn complete_job<R: Threads + Sync, S: Source, K: Sink, G: Gate>(
         sink.old sink.new (IsCompleteOutcome order) (IsAccepted order) SaysRead result }
     ensures no_words { result ≡ Status.Words → ⊥ }
 {
+    form_job(rt, alloc, Form::Text, order, workers, source, sink, gate)
+}
+
+/// `complete-json`: as `complete`, with the lines and their completion in JSON.
+pub fn json_job<R: Threads + Sync, S: Source, K: Sink, G: Gate>(
+    rt: &R,
+    alloc: Global,
+    order: u32,
+    workers: u32,
+    source: &mut S,
+    sink: &mut K,
+    gate: &G,
+) -> Status
+    requires order { order ≤ highest_order }
+    requires some { 1 ≤ workers }
+    requires few { workers ≤ most_workers }
+    // The first fault is a rise.
+    requires source { S.faults source.old < 2 ^ 64 - 1 }
+    requires sink { K.faults sink.old < 2 ^ 64 - 1 }
+
+    ensures promise { KeepsPromise S.left S.faults K.held K.faults source.old source.new
+        sink.old sink.new (IsJsonOutcome order) (IsJsonAccepted order) SaysRead result }
+    ensures no_words { result ≡ Status.Words → ⊥ }
+{
+    form_job(rt, alloc, Form::Json, order, workers, source, sink, gate)
+}
+
+/// `theta`: reads lines and asks, completes the lines as `complete` does, and prints the answer to each ask in the last
+/// order: a theta function, a product of two as a family of theta functions, or why there is none. So many workers
+/// compute and answer. An ask that wants a later order is told so.
+pub fn theta_job<R: Threads + Sync, S: Source, K: Sink, G: Gate>(
+    rt: &R,
+    alloc: Global,
+    order: u32,
+    workers: u32,
+    source: &mut S,
+    sink: &mut K,
+    gate: &G,
+) -> Status
+    requires order { order ≤ highest_order }
+    requires some { 1 ≤ workers }
+    requires few { workers ≤ most_workers }
+    // The first fault is a rise.
+    requires source { S.faults source.old < 2 ^ 64 - 1 }
+    requires sink { K.faults sink.old < 2 ^ 64 - 1 }
+
+    ensures promise { KeepsPromise S.left S.faults K.held K.faults source.old source.new
+        sink.old sink.new (IsThetaOutcome order) (IsThetaAccepted order) SaysRead result }
+    ensures no_words { result ≡ Status.Words → ⊥ }
+{
+    form_job(rt, alloc, Form::Asks, order, workers, source, sink, gate)
+}
+
+/// Reads an input in this form, completes its lines, and prints what the form asks for.
+fn form_job<R: Threads + Sync, S: Source, K: Sink, G: Gate>(
+    rt: &R,
+    alloc: Global,
+    form: Form,
+    order: u32,
+    workers: u32,
+    source: &mut S,
+    sink: &mut K,
+    gate: &G,
+) -> Status
+    requires order { order ≤ highest_order }
+    requires some { 1 ≤ workers }
+    requires few { workers ≤ most_workers }
+    // The first fault is a rise.
+    requires source { S.faults source.old < 2 ^ 64 - 1 }
+    requires sink { K.faults sink.old < 2 ^ 64 - 1 }
+
+    ensures promise { KeepsPromise S.left S.faults K.held K.faults source.old source.new
+        sink.old sink.new (IsFormOutcome form order) (IsFormAccepted form order) SaysRead result }
+    ensures no_words { result ≡ Status.Words → ⊥ }
+{
     match read_input(alloc, source) {
-        Ok(bytes) => match answer_to(rt, alloc, order, workers, bytes.as_slice(), gate) {
+        Ok(bytes) => match answer_to(rt, alloc, form, order, workers, bytes.as_slice(), gate) {
             Ok(answer) => give(sink, answer.status, answer.text.as_slice()),
             Err(_) => Status::Memory,
         },

@@ -3,16 +3,18 @@
 
 mod answer;
 mod completing;
+mod form;
 mod generating;
 mod generator;
 mod jobs;
 mod laws;
+mod printing;
 mod reading;
 mod status;
 mod words;
 mod workers;
 mod writing;
 
-pub use jobs::{complete_job, generate_job, run};
+pub use jobs::{complete_job, generate_job, json_job, run, theta_job};
 pub use laws::one_outcome;
 pub use status::Status;

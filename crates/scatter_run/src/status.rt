@@ -2,6 +2,7 @@
 ghost use Rattle.std.specs.Prelude.{◌≡◌};
 
 use scatter_diagram::StopCause;
+use scatter_json::JsonKind;
 use scatter_text::{LimitKind, TextKind};
 
 /// How a run ended. `code` is the program's exit status.
@@ -13,6 +14,8 @@ pub enum Status {
     Words,
     /// The input isn't of the format: its first bad line, counted from 1, and what is wrong with it.
     Text { line: u32, kind: TextKind },
+    /// The input isn't a JSON text of the form: what is wrong with it.
+    Json { kind: JsonKind },
     /// The input passes a limit.
     Limit { which: LimitKind },
     /// An order is stopped: the text has the completion of the order before.
@@ -35,7 +38,7 @@ impl Status {
         match self {
             Status::Done => 0,
             Status::Words => 1,
-            Status::Text { .. } => 2,
+            Status::Text { .. } | Status::Json { .. } => 2,
             Status::Limit { .. } => 3,
             Status::Stopped { .. } => 4,
             Status::ReadFault => 5,

@@ -3,8 +3,11 @@ ghost use Rattle.std.specs.Prelude.{◌≡◌, ◌≤◌, ◌<◌, ◌^◌, ℕ,
 ghost use Rattle.std.specs.List.{list_any};
 ghost use Rattle.clap.specs.Words.{app_of, found_of, rows_of};
 ghost use Rattle.scatter_run.specs.CommandLine.{command_line, words_read, begins_with_hyphen};
+ghost use Rattle.scatter_run.specs.Form.{form_word};
+ghost use Rattle.scatter_run.specs.declared.form.Form.{Form as FormOfLines};
 ghost use Rattle.scatter_run.specs.Words.{AreWordsOf, NameNoJob, word_bytes};
 
+use crate::form::Form;
 use clap::error::ErrorKind;
 use clap::{Arg, ArgAction, ArgMatches, Command};
 use itoa::Buffer;
@@ -17,10 +20,16 @@ const LARGEST_NUMBER: u32 = 1_000_000;
 /// The jobs that words can name.
 #[derive(Clone, Copy, Debug, PartialEq, Eq)]
 pub(crate) enum Job {
-    /// `complete ORDER WORKERS`.
-    Complete { order: u32, workers: u32 },
+    /// `complete ORDER WORKERS`, `complete-json ORDER WORKERS` and `theta ORDER WORKERS`, by the form.
+    Complete {
+        form: Form,
+        order: u32,
+        workers: u32,
+    },
     /// `generate N`.
-    Generate { number: u32 },
+    Generate {
+        number: u32,
+    },
 }
 
 /// The job that the words name, or None where they aren't in the table.
@@ -94,17 +103,35 @@ fn job_of(job: &str, numbers: &[&str]) -> Option<Job>
     }
 }
 
-/// `complete` with these numbers, if they are in range.
+/// `complete`, `complete-json` or `theta` with these numbers, if they are in range.
 fn complete_of(job: &str, order: &str, workers: &str) -> Option<Job>
     ensures job { IfSome result (AreWordsOf (job.now ∷ order.now ∷ workers.now ∷ [])) }
     ensures none { IfNone result (NameNoJob (job.now ∷ order.now ∷ workers.now ∷ [])) }
 {
-    if !is_same(job, "complete") {
-        return None;
-    }
+    let form = form_of(job)?;
     let order = read_number(order, 0, HIGHEST_ORDER + 1)?;
     let workers = read_number(workers, 1, MOST_WORKERS + 1)?;
-    Some(Job::Complete { order, workers })
+    Some(Job::Complete {
+        form,
+        order,
+        workers,
+    })
+}
+
+/// The form of the job with this word, if that completes the lines of an input.
+fn form_of(job: &str) -> Option<Form>
+    ensures some { IfSome result (λ form. job.now ≡ form_word form) }
+    ensures none { IfNone result ((form : FormOfLines) → job.now ≡ form_word form → ⊥) }
+{
+    if is_same(job, "complete") {
+        Some(Form::Text)
+    } else if is_same(job, "complete-json") {
+        Some(Form::Json)
+    } else if is_same(job, "theta") {
+        Some(Form::Asks)
+    } else {
+        None
+    }
 }
 
 /// `generate` with this number, if it is in range.

@@ -11,15 +11,15 @@ use Rattle.scatter_run.proofs.jobs.run.Goals as goal
 pub returns-in-Ok-Some-Complete-clause-promise : goal.returns-in-Ok-Some-Complete-clause-promise
 returns-in-Ok-Some-Complete-clause-promise g c =
     let h = c.in-Ok-Some-Complete in
-    job_kept (word_bytes c.args.words.now) (Complete h.order h.workers) _ _ _ _ _ _ _ _ c.complete_job.result
-    (subst (AreWordsOf (word_bytes c.args.words.now)) h.field-0-0-is (rw h.field-0-is at h.ensures.job)) c.complete_job.ensures.promise
+    job_kept (word_bytes c.args.words.now) (Complete h.form h.order h.workers) _ _ _ _ _ _ _ _ c.form_job.result
+    (subst (AreWordsOf (word_bytes c.args.words.now)) h.field-0-0-is (rw h.field-0-is at h.ensures.job)) c.form_job.ensures.promise
 
 pub returns-in-Ok-Some-Complete-clause-one : goal.returns-in-Ok-Some-Complete-clause-one
 returns-in-Ok-Some-Complete-clause-one g c =
     let h = c.in-Ok-Some-Complete in
-    written-one (word_bytes c.args.words.now) (g.S.Source.left c.args.source.now) _ _ c.complete_job.result
-    (job_kept (word_bytes c.args.words.now) (Complete h.order h.workers) _ _ _ _ _ _ _ _ c.complete_job.result
-    (subst (AreWordsOf (word_bytes c.args.words.now)) h.field-0-0-is (rw h.field-0-is at h.ensures.job)) c.complete_job.ensures.promise).outcome
+    written-one (word_bytes c.args.words.now) (g.S.Source.left c.args.source.now) _ _ c.form_job.result
+    (job_kept (word_bytes c.args.words.now) (Complete h.form h.order h.workers) _ _ _ _ _ _ _ _ c.form_job.result
+    (subst (AreWordsOf (word_bytes c.args.words.now)) h.field-0-0-is (rw h.field-0-is at h.ensures.job)) c.form_job.ensures.promise).outcome
 
 pub returns-in-Ok-Some-Generate-clause-promise : goal.returns-in-Ok-Some-Generate-clause-promise
 returns-in-Ok-Some-Generate-clause-promise g c =
