@@ -8,7 +8,7 @@ use crate::answer::Answer;
 use crate::form::Form;
 use crate::printing::write_file;
 use crate::status::Status;
-use crate::workers::complete_by_workers;
+use joint_workers::complete_by_workers;
 use outside_io::Gate;
 use scatter_diagram::StopCause;
 use scatter_text::{TextFile, initial_of};

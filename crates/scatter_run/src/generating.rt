@@ -10,7 +10,7 @@ ghost use Rattle.scatter_run.specs.Outcome.{IsGenerateOutcome};
 use crate::answer::Answer;
 use crate::completing::status_of;
 use crate::generator::generated_file;
-use crate::workers::complete_by_workers;
+use joint_workers::complete_by_workers;
 use outside_io::Gate;
 use scatter_diagram::{Diagram, StopCause, Wall};
 use scatter_text::{initial_of, push_closing};

@@ -12,7 +12,6 @@ mod printing;
 mod reading;
 mod status;
 mod words;
-mod workers;
 mod writing;
 
 pub use jobs::{complete_job, generate_job, json_job, run, theta_job};

@@ -1,6 +1,6 @@
 use Rattle.std.proofs.Common.{arith}
 use Rattle.scatter_step.proofs.Outcomes.{reached-next, outcome-whole, outcome-stopped}
-use Rattle.scatter_run.proofs.workers.complete_by_workers.Goals as goal
+use Rattle.joint_workers.proofs.orders.complete_by_workers.Goals as goal
 
 pub returns-in-Err-At : goal.returns-in-Err-At
 returns-in-Err-At g c =

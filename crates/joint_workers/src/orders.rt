@@ -1,11 +1,12 @@
-//! Completion order by order, by workers.
+// Completion order by order, by workers.
+
 ghost use Rattle.std.specs.Prelude.{◌≡◌, ◌+◌, ◌<◌, ◌≤◌, None, IfOk, IfErr};
 ghost use Rattle.limits.specs.Limits.{highest_order, most_workers};
 ghost use Rattle.scattering.specs.Stops.{IsStopAt};
 ghost use Rattle.scatter_step.specs.Completed.{IsCompleted};
 ghost use Rattle.scatter_step.specs.Orders.{IsNextCompletion, IsStoppedAfter, IsOutcome};
 
-use joint_workers::correct_all;
+use crate::correct_all;
 use outside_io::Gate;
 use scatter_diagram::{Initial, Stop};
 use scatter_step::{Completed, Outcome};
@@ -13,8 +14,8 @@ use std::alloc::{AllocError, Global};
 use std::thread::Threads;
 
 /// The completion of the lines at `order`, or at the order before the first that is stopped, by so many
-/// workers. It is the only one of its order, so the number of workers doesn't count.
-pub(crate) fn complete_by_workers<R: Threads + Sync, G: Gate>(
+/// workers, from 1 to 16. It is the only one of its order, so the number of workers doesn't count.
+pub fn complete_by_workers<R: Threads + Sync, G: Gate>(
     rt: &R,
     alloc: Global,
     initial: &Initial,
@@ -41,10 +42,10 @@ pub(crate) fn complete_by_workers<R: Threads + Sync, G: Gate>(
     Ok(Outcome { last, stop: None })
 }
 
-/// The completion of the next order, whose points are corrected by so many workers, or the first cause that
-/// stops it: an active point with a number above 2^40, then one of a weight above 2^126, then more than 8192
-/// walls.
-fn next_by_workers<R: Threads + Sync, G: Gate>(
+/// The completion of the next order, whose points are corrected by so many workers, from 1 to 16, or the first
+/// cause that stops it: an active point with a number above 2^40, then one of a weight above 2^126, then more
+/// than 8192 walls.
+pub fn next_by_workers<R: Threads + Sync, G: Gate>(
     rt: &R,
     alloc: Global,
     done: &Completed,

@@ -7,7 +7,7 @@ use Rattle.ray_merge.specs.Additions.{corrections_of}
 use Rattle.scatter_step.proofs.NextStop.{stops-far, stops-heavy, stops-many, stops-not}
 use Rattle.scatter_step.proofs.Points.{corrections-at, corrections-light, joints-light, joints-heavy}
 use Rattle.scatter_step.proofs.Stopped.{IfStop-weaker}
-use Rattle.scatter_run.proofs.workers.next_by_workers.Goals as goal
+use Rattle.joint_workers.proofs.orders.next_by_workers.Goals as goal
 
 pub returns-in_err-points-clause-stop : goal.returns-in_err-points-clause-stop
 returns-in_err-points-clause-stop g c =

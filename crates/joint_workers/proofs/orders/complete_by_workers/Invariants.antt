@@ -1,5 +1,5 @@
 use Rattle.scatter_step.proofs.Outcomes.{IsReached}
-use Rattle.scatter_run.proofs.workers.complete_by_workers.Given as goal
+use Rattle.joint_workers.proofs.orders.complete_by_workers.Given as goal
 
 abbrev pub invariant-loop : goal.invariant-loop
 invariant-loop g l = IsReached l.initial' l.counter l.last
