@@ -1,19 +1,18 @@
 -- F^n as an exact series: its constant term, and the masses that are below that of |F|^n.
 use Rattle.std.proofs.Common.{◌≡◌, ◌≢◌, ℕ, zero, suc, ◌+◌, ◌<◌, ◌≤◌, ◌-◌, refl, sym, ap, subst, ◌∙◌, Bool, true, false, cond, List, [], ◌∷◌, map, length, get_or, drop, arith}
-use Rattle.std.specs.Prelude.{ℤ, pos, ◌+ℤ◌, ◌≤ℤ◌, nat_abs, nat_le}
+use Rattle.std.specs.Prelude.{ℤ, pos, ◌+ℤ◌, ◌≤ℤ◌, nat_abs}
 use Rattle.std.proofs.lemmas.Int.{ints}
 use Rattle.std.proofs.Math.Decide.{dec_le}
 use Rattle.scattering.specs.Collections.{Every}
-use Rattle.scattering.specs.Series.{Exp, Key, Term, Sum, Same, SameTo, degree, key_eq, unit, coef, one, cut, mul, pow, absolute, rest, mass_to, IsSeries, IsWallFunction}
+use Rattle.scattering.specs.Series.{Exp, Key, Sum, Same, SameTo, degree, key_eq, unit, coef, one, cut, mul, pow, absolute, rest, mass_to, IsWallFunction}
 use Rattle.scattering.specs.Plane.{Point}
 use Rattle.scattering.specs.Wall.{Wall}
 use Rattle.scattering.specs.BrokenLine.{live_on, product}
-use Rattle.scattering.proofs.Lists.{Every-filter, Every-implies}
+use Rattle.scattering.proofs.Lists.{Every-implies}
 use Rattle.scattering.proofs.Keys.{key_eq-same, key_eq-refl}
 use Rattle.scattering.proofs.Coefficients.{coef-none, coef-above, coef-cut, coef-rest, rest-absolute}
 use Rattle.scattering.proofs.DistinctKeys.{series-distinct, rising-own}
-use Rattle.crossing_theory.proofs.Translation.{to_Eq}
-use Rattle.weight_theory.specs.Laws.{IsNonnegative, IsBelow}
+use Rattle.weight_theory.specs.Laws.{IsNonnegative}
 use Rattle.weight_theory.proofs.Readings.{Bounds, to_Bounds, from_Bounds}
 use Rattle.weight_theory.proofs.Bounds.{bounds-trans, bounds-same, bounds-itself, bounds-absolute, bounds-mul, bounds-pow, mul-nonnegative, pow-nonnegative, one-nonnegative, absolute-nonnegative}
 use Rattle.weight_theory.proofs.Masses.{mass-bounded_list, coef-absolute, series-absolute-is-below}
@@ -23,7 +22,6 @@ use Rattle.trunc_series.specs.declared.arithmetic.Arithmetic.TheVariants.{Satura
 use Rattle.trunc_series.specs.Shown.{Seen, HasNearTerms, IsSeriesOf}
 use Rattle.trunc_series.proofs.Coefficients.{keepable-coef}
 use Rattle.trunc_series.proofs.PowerLaws.{one-mul_cut, mul-same_to, key-from}
-use Rattle.scatter_diagram.specs.Proper.{AreTameWalls}
 use Rattle.scatter_diagram.specs.declared.wall.Wall.{Wall as CodeWall}
 use Rattle.scatter_diagram.specs.Shown.{wall_of, walls_of}
 use Rattle.scatter_diagram.proofs.Walls.{is-wall}

@@ -13,17 +13,15 @@ use Rattle.broken_line_theory.proofs.Bends.{IsTame}
 use Rattle.broken_line_theory.proofs.BendWalls.{bend-wall, live-out}
 use Rattle.plane_geom.specs.declared.Point.{Point as CodePoint}
 use Rattle.plane_geom.specs.Shown.{point_of}
-use Rattle.scatter_diagram.specs.Shown.{walls_of}
-use Rattle.scatter_diagram.specs.declared.wall.Wall.{Wall as CodeWall}
-use Rattle.scatter_diagram.proofs.Walls.{are-walls}
 use Rattle.joint_finder.specs.Joints.{points_of}
 use Rattle.bend_finder.specs.Ahead.{IsToldAs, IsHitAhead, IsSpecialAhead, IsBendAhead, bend_weight, seen_ahead, IsAhead, bends_of}
 use Rattle.bend_finder.specs.declared.bend.Bend.{Bend as CodeBend}
-use Rattle.bend_finder.specs.Live.{IsReady}
-use Rattle.bend_finder.specs.Special.{HoldsSome}
+use Rattle.bend_finder.specs.Live.{live_cut}
+use Rattle.bend_finder.specs.Runs.{LiveRun, AreLiveRunsOf, OnSome, HasLiveOn, all_walls}
 use Rattle.bend_finder.specs.Crossings.{CrossesSome, AreCandidates}
 use Rattle.bend_finder.specs.Bends.{IsTurn, AreBends, IsFirstSpecial}
 use Rattle.bend_finder.proofs.LiveCut.{live-on_live}
+use Rattle.bend_finder.proofs.Lines.{runs-within}
 use Rattle.bend_finder.proofs.Directions.{beyond-shorter, beyond-longer, crosses-shorter, crosses-longer}
 use Rattle.bend_finder.proofs.SpecialPoints.{special-on_live, least-special}
 use Rattle.bend_finder.proofs.PowerMajorants.{bend-keepable, bend-lower, mass-same}
@@ -37,44 +35,48 @@ tame-walls n (w ∷ ls) h = (h.0.function.others, tame-walls n ls h.1)
 abbrev majorant_of : ℕ → List Wall → Exp → Sum
 majorant_of n us x = pow n (product n (map (λ w. absolute w.function) us)) (across us x)
 
-module _ (ws : List Wall) (b : ℕ) (live : List CodeWall) (ready : IsReady b ws live) where
+-- whether a live wall is on a point
+pub on-live : (b : ℕ) (ws : List Wall) (rs : List LiveRun) → AreLiveRunsOf (live_cut b ws) rs → (q : Point) (a : Bool) → IsTrue a ↔ OnSome (all_walls rs) q → a ≡ is_on_live (cut_walls b ws) q
+on-live b ws rs r q a h = bool_iff a (is_on_live (cut_walls b ws) q) (λ t. to (h.0 t)) (λ t. h.1 (from t))
+  where
+    to : OnSome (all_walls rs) q → is_on_live (cut_walls b ws) q ≡ true
+    to w =
+        let i = runs-within (live_cut b ws) rs r w.0 w.1 in
+        let k = filter-keeps (λ w. is_live w && is_on w q) (live_cut b ws) w.0 i (and-in (is_live w.0) (is_on w.0 q) (r.live w.0 i) w.2) in
+        any-true (λ (w : Wall). true) (live_on (cut_walls b ws) q) w.0 (subst (In w.0) (live-on_live (cut_walls b ws) q) k) refl
+
+    from : is_on_live (cut_walls b ws) q ≡ true → OnSome (all_walls rs) q
+    from t =
+        let w = any-some (λ (w : Wall). true) (live_on (cut_walls b ws) q) t in
+        let o = live-out (live_cut b ws) q w.0 (subst (In w.0) (sym (live-on_live (cut_walls b ws) q)) w.1) in (w.0, r.all w.0 o.0, o.2)
+
+module _ (ws : List Wall) (b : ℕ) (proper : Every (IsWall b) (live_cut b ws)) where
   abbrev ls : List Wall
-  ls = walls_of live
+  ls = live_cut b ws
 
   pub same-live : (q : Point) → live_on ls q ≡ live_on (cut_walls b ws) q
-  same-live q = ap (λ us. live_on us q) ready.walls ∙ live-on_live (cut_walls b ws) q
+  same-live q = live-on_live (cut_walls b ws) q
 
   same-special : (q : Point) → is_special ls q ≡ is_special (cut_walls b ws) q
-  same-special q = ap (λ us. is_special us q) ready.walls ∙ special-on_live (cut_walls b ws) q
+  same-special q = special-on_live (cut_walls b ws) q
 
   same-majorant : (q : Point) (x : Exp) → bend_majorant b ls q x ≡ bend_majorant b (cut_walls b ws) q x
   same-majorant q x = ap (λ us. majorant_of b us x) (same-live q)
 
   alive : (w : Wall) → In w ls → is_live w ≡ true
-  alive w i = (filter-from is_live (cut_walls b ws) w (subst (In w) ready.walls i)).1
+  alive w i = (filter-from is_live (cut_walls b ws) w i).1
 
   tame : Every IsTame ls
-  tame = tame-walls b ls (are-walls b live ready.order)
-
-  -- whether a live wall is on a point
-  pub on-live : (q : Point) (a : Bool) → IsTrue a ↔ HoldsSome ls q → a ≡ is_on_live (cut_walls b ws) q
-  on-live q a h = bool_iff a (is_on_live (cut_walls b ws) q) (λ t. to (h.0 t)) (λ t. h.1 (from t))
-    where
-      to : HoldsSome ls q → is_on_live (cut_walls b ws) q ≡ true
-      to w = any-true (λ (w : Wall). true) (live_on (cut_walls b ws) q) w.0 (subst (In w.0) (same-live q) (filter-keeps (λ w. is_live w && is_on w q) ls w.0 w.1 w.2)) refl
-
-      from : is_on_live (cut_walls b ws) q ≡ true → HoldsSome ls q
-      from t =
-          let w = any-some (λ (w : Wall). true) (live_on (cut_walls b ws) q) t in
-          let o = filter-from (λ w. is_live w && is_on w q) ls w.0 (subst (In w.0) (sym (same-live q)) w.1) in (w.0, o.0, o.1)
+  tame = tame-walls b ls proper
 
   -- the weight and the value of a bend
-  pub light-live : (m : ℕ) (x : Exp) (c : Bend) → degree c.key ≤ b → bend_weight ws b x c ≤ m → mass_to (degree c.key) (bend_majorant (degree c.key) ls c.at x) ≤ m
-  light-live m x c l h =
+  pub light-live : (m : ℕ) (x : Exp) (c : Bend) (g : List Wall) → HasLiveOn ls c.at g → degree c.key ≤ b → bend_weight ws b x c ≤ m → mass_to (degree c.key) (bend_majorant (degree c.key) g c.at x) ≤ m
+  light-live m x c g s l h =
       let d = degree c.key in
-      let e : mass_to d (bend_majorant b (cut_walls b ws) c.at x) ≡ mass_to d (bend_majorant d ls c.at x) =
+      let e : mass_to d (bend_majorant b (cut_walls b ws) c.at x) ≡ mass_to d (bend_majorant d g c.at x) =
       ap (mass_to d) (sym (same-majorant c.at x))
-      ∙ mass-same d (bend_majorant b ls c.at x) (bend_majorant d ls c.at x) (bend-keepable b ls c.at x) (bend-keepable d ls c.at x) (λ k i. bend-lower d b l ls c.at x k i) in
+      ∙ mass-same d (bend_majorant b ls c.at x) (bend_majorant d ls c.at x) (bend-keepable b ls c.at x) (bend-keepable d ls c.at x) (λ k i. bend-lower d b l ls c.at x k i)
+      ∙ ap (λ us. mass_to d (majorant_of d us x)) (sym s) in
       subst (λ (k : ℕ). k ≤ m) e h
 
   pub value-live : (x : Exp) (c : Bend) → degree c.key ≤ b → coef (bend_series (degree c.key) ls c.at x) c.key ≡ coef (bend_series b (cut_walls b ws) c.at x) c.key
@@ -85,7 +87,7 @@ module _ (ws : List Wall) (b : ℕ) (live : List CodeWall) (ready : IsReady b ws
       itself : (n : ℕ) → n ≤ n
       itself n = omega arith
 
-  module _ (p : Point) (e x : Exp) (along : IsMultiple e x) (primitive : IsDirection e) (most : ℕ) (low : most ≤ b) (ps : List CodePoint) (far : Bool) (h : AreCandidates live p e ps far) where
+  module _ (p : Point) (e x : Exp) (along : IsMultiple e x) (primitive : IsDirection e) (most : ℕ) (low : most ≤ b) (ps : List CodePoint) (far : Bool) (h : AreCandidates ls p e ps far) where
     -- crossings
     crossed-hit : (q : Point) → CrossesSome ls p e q → IsHitAhead ws b p x q
     crossed-hit q c = (
@@ -106,11 +108,11 @@ module _ (ws : List Wall) (b : ℕ) (live : List CodeWall) (ready : IsReady b ws
     bend-in : (c : Bend) → In c.at (points_of ps) → IsTurn most ls x c → IsBendAhead ws b p x most c
     bend-in c i t = (
       record {
-        ahead = beyond-longer p e x c.at along (h.each c.at i).1;
+        ahead = beyond-longer p e x c.at along (h.found.each c.at i).1;
         near = near-in c.at i;
         plain = sym (same-special c.at) ∙ t.plain;
         bend = record {
-          point = (h.each c.at i).0;
+          point = (h.found.each c.at i).0;
           degree = t.some;
           key = λ z. t.key (sym (bend-lower most b low ls c.at x c.key t.most) ∙ ap (λ f. coef f c.key) (same-majorant c.at x) ∙ z);
         };
@@ -124,7 +126,7 @@ module _ (ws : List Wall) (b : ℕ) (live : List CodeWall) (ready : IsReady b ws
         let key : coef (bend_majorant b ls c.at x) c.key ≢ pos 0 = λ z. k.0.bend.key (sym (ap (λ f. coef f c.key) (same-majorant c.at x)) ∙ z) in
         let w = bend-wall b ls c.at x c.key tame plain k.0.bend.degree key in
         let o = live-out ls c.at w.wall w.on in (
-          h.crossings c.at (w.wall, o.0, (k.0.bend.point, beyond-shorter p e x c.at along k.0.ahead, o.2, crosses-shorter w.wall.dir e x along w.crosses)) k.0.near,
+          h.found.crossings c.at (w.wall, o.0, (k.0.bend.point, beyond-shorter p e x c.at along k.0.ahead, o.2, crosses-shorter w.wall.dir e x along w.crosses)) k.0.near,
           record { some = k.0.bend.degree; most = k.1; plain = plain; key = λ z. key (bend-lower most b low ls c.at x c.key k.1 ∙ z) },
         )
 
@@ -155,9 +157,9 @@ module _ (ws : List Wall) (b : ℕ) (live : List CodeWall) (ready : IsReady b ws
       };
       sorted = k.sorted;
       weights = Every-from_In (λ d. IsToldAs (bend_weight ws b x d.0) d.1) (bends_of bs) weight;
-      far = λ t. let c = h.far t in (c.0, crossed-hit c.0 c.1, c.2);
-      near = λ t q c. h.near t q (hit-crossed q c);
-      special = λ t. special-as o (least-special live p e ps far primitive h t o f);
+      far = λ t. let c = h.found.far t in (c.0, crossed-hit c.0 c.1, c.2);
+      near = λ t q c. h.found.near t q (hit-crossed q c);
+      special = λ t. special-as o (least-special ls p e ps far primitive h.found t o f);
     }
       where
         weight : (d : Bend × ℕ) → In d (bends_of bs) → IsToldAs (bend_weight ws b x d.0) d.1

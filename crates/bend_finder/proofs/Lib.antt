@@ -1,10 +1,16 @@
+pub mod Outcomes
 pub mod LiveCut
 pub mod Directions
+pub mod Lines
 pub mod WallCrossings
+pub mod RunCrossings
 pub mod SpecialPoints
+pub mod FoundWalls
 pub mod PowerMajorants
 pub mod ExactPowers
 pub mod KeptEntries
+pub mod KeptMaps
+pub mod TakenPowers
 pub mod TermMasses
 pub mod PointBends
 pub mod Found

@@ -1,9 +1,10 @@
 -- The bends at points, point by point.
 use Rattle.std.proofs.Common.{◌≡◌, ◌≢◌, ℕ, zero, suc, ◌+◌, ◌<◌, ◌≤◌, ◌^◌, length, get_or, take, refl, sym, ap, subst, ◌∙◌, Bool, true, false, List, [], ◌∷◌, ◌++◌, map, min, ◌⊎◌, inl, inr, arith}
-use Rattle.std.specs.Prelude.{ℤ, pos, ◌≤ℤ◌, ◌&&◌, nat_le, IsTrue, IsFalse, filter}
+use Rattle.std.specs.Prelude.{ℤ, pos, ◌≤ℤ◌, ◌&&◌, nat_le, IsTrue, IsFalse, filter, Option, Some, None}
+use Rattle.std.specs.Option.{option_or}
 use Rattle.std.specs.Int.{int_min}
 use Rattle.std.proofs.lemmas.Int.{ints, clamps}
-use Rattle.scattering.specs.Collections.{In, Every, EveryPair, Distinct, IsLeast}
+use Rattle.scattering.specs.Collections.{In, Every, EveryPair, Distinct}
 use Rattle.scattering.specs.Series.{Exp, Key, Term, Sum, degree, coef, key_before, mass_to}
 use Rattle.scattering.specs.Plane.{Point, point_before, point_eq}
 use Rattle.scattering.specs.Wall.{Wall}
@@ -27,7 +28,7 @@ use Rattle.trunc_series.specs.Arithmetic.{limit}
 use Rattle.trunc_series.specs.Capped.{IsMajorantOf}
 use Rattle.trunc_series.proofs.Coefficients.{keepable-coef}
 use Rattle.bend_finder.specs.Ahead.{IsToldAs}
-use Rattle.bend_finder.specs.Bends.{told_mass, told_bends, IsTurn, AreBends}
+use Rattle.bend_finder.specs.Bends.{told_mass, told_bends, IsTurn, AreBends, IsFirstSpecial}
 use Rattle.bend_finder.proofs.PowerMajorants.{bend-keepable, told-mass}
 
 -- ---- the order of bends
@@ -135,6 +136,15 @@ no-bends n ls x = record { each = tt; all = λ c i t. absurd i; told = tt; sorte
 pub bends-along : (n : ℕ) (ls : List Wall) (x : Exp) (qs rs : List Point) (bs cs : List (Bend × ℕ)) → rs ≡ qs → cs ≡ bs → AreBends n ls x qs bs → AreBends n ls x rs cs
 bends-along n ls x qs rs bs cs e f h = subst (λ (us : List Point). AreBends n ls x us cs) (sym e) (subst (AreBends n ls x qs) (sym f) h)
 
+-- where no degree is left, no point has one
+pub low-none : (n : ℕ) (ls : List Wall) (x : Exp) (qs : List Point) (q : Point) (bs : List (Bend × ℕ)) → n < 1 → AreBends n ls x qs bs → AreBends n ls x (qs ++ q ∷ []) bs
+low-none n ls x qs q bs low k = record {
+  each = Every-implies _ (λ c. In c.0.at (qs ++ q ∷ []) × IsTurn n ls x c.0) bs (λ c o. (In-left qs (q ∷ []) c.0.at o.0, o.1)) k.each;
+  all = λ c i o. let s = o.some in let m = o.most in absurd (omega (arith, low, s, m));
+  told = k.told;
+  sorted = k.sorted;
+}
+
 -- a special point has none
 pub special-none : (n : ℕ) (ls : List Wall) (x : Exp) (qs : List Point) (q : Point) (bs : List (Bend × ℕ)) → is_special ls q ≡ true → AreBends n ls x qs bs → AreBends n ls x (qs ++ q ∷ []) bs
 special-none n ls x qs q bs s k = record {
@@ -165,30 +175,52 @@ points-before (p ∷ ps) (suc i) q l e h = (first ps i (omega (arith, l)) e h.0,
     first (r ∷ ps) zero l e h = subst (λ (s : CodePoint). IsTrue (point_before (point_of p) (point_of s))) (sym e) h.0
     first (r ∷ ps) (suc i) l e h = first ps i (omega (arith, l)) e h.1
 
--- the first that is special
-pub first-is-least : (ls : List Wall) (ps : List CodePoint) (i : ℕ) (r : CodePoint) → i < length ps → r ≡ get_or ps i r → EveryPair (λ p q. IsTrue (point_before p q)) (points_of ps) → ((q : Point) → In q (points_of (take i ps)) → IsFalse (is_special ls q))
-    → is_special ls (point_of r) ≡ true → IsLeast point_before (λ q. In q (points_of ps) × IsTrue (is_special ls q)) (point_of r)
-first-is-least ls [] i r l e h n s = absurd (omega (arith, l))
-first-is-least ls (p ∷ ps) zero r l e h n s = ((inl (ap point_of e), s), λ q o. after q o.0)
-  where
-    after : (q : Point) → In q (points_of (p ∷ ps)) → (q ≡ point_of r) ⊎ IsTrue (point_before (point_of r) q)
-    after q (inl k) = inl (k ∙ sym (ap point_of e))
-    after q (inr i) = inr (Every-at (λ q. IsTrue (point_before (point_of r) q)) (points_of ps) q (subst (λ (s : CodePoint). Every (λ q. IsTrue (point_before (point_of s) q)) (points_of ps)) (sym e) h.0) i)
-first-is-least ls (p ∷ ps) (suc i) r l e h n s = go (first-is-least ls ps i r (omega (arith, l)) e h.1 (λ q k. n q (inr k)) s)
-  where
-    go : IsLeast point_before (λ q. In q (points_of ps) × IsTrue (is_special ls q)) (point_of r) → IsLeast point_before (λ q. In q (points_of (p ∷ ps)) × IsTrue (is_special ls q)) (point_of r)
-    go m = ((inr m.0.0, m.0.1), λ q o. other q o.0 o.1)
-      where
-        other : (q : Point) → In q (points_of (p ∷ ps)) → IsTrue (is_special ls q) → (q ≡ point_of r) ⊎ IsTrue (point_before (point_of r) q)
-        other q (inr k) t = m.1 q (k, t)
-        other q (inl k) t = let f = n q (inl k) in absurd (cc)
+-- ---- the first that is special, where one point more is looked at
 
--- none up to a place, and at it
-pub plain-more : (ls : List Wall) (ps : List CodePoint) (i : ℕ) (r : CodePoint) → i < length ps → r ≡ get_or ps i r → ((q : Point) → In q (points_of (take i ps)) → IsFalse (is_special ls q)) → is_special ls (point_of r) ≡ false
-    → (q : Point) → In q (points_of (take (i + 1) ps)) → IsFalse (is_special ls q)
-plain-more ls ps i r l e n s q k = go (In-append (points_of (take i ps)) (point_of r ∷ []) q (subst (In q) (points-more ps i r l e) k))
-  where
-    go : In q (points_of (take i ps)) ⊎ In q (point_of r ∷ []) → IsFalse (is_special ls q)
-    go (inl j) = n q j
-    go (inr (inl j)) = subst (λ (t : Point). is_special ls t ≡ false) (sym j) s
-    go (inr (inr f)) = absurd f
+module _ (ls : List Wall) (before after : List CodePoint) (r : CodePoint) (e : points_of after ≡ points_of before ++ point_of r ∷ []) where
+  either : (q : Point) → In q (points_of after) → In q (points_of before) ⊎ (q ≡ point_of r)
+  either q i = go (In-append (points_of before) (point_of r ∷ []) q (subst (In q) e i))
+    where
+      go : In q (points_of before) ⊎ In q (point_of r ∷ []) → In q (points_of before) ⊎ (q ≡ point_of r)
+      go (inl j) = inl j
+      go (inr (inl k)) = inr k
+      go (inr (inr f)) = absurd f
+
+  old : (q : Point) → In q (points_of before) → In q (points_of after)
+  old q i = subst (In q) (sym e) (In-left (points_of before) (point_of r ∷ []) q i)
+
+  new : In (point_of r) (points_of after)
+  new = subst (In (point_of r)) (sym e) (In-right (points_of before) (point_of r ∷ []) (point_of r) (inl refl))
+
+  -- that isn't special
+  pub first-plain : is_special ls (point_of r) ≡ false → (o : Option CodePoint) → IsFirstSpecial ls before o → IsFirstSpecial ls after o
+  first-plain s None h = λ q i. go q (either q i)
+    where
+      go : (q : Point) → In q (points_of before) ⊎ (q ≡ point_of r) → is_special ls q ≡ false
+      go q (inl j) = h q j
+      go q (inr k) = subst (λ (p : Point). is_special ls p ≡ false) (sym k) s
+  first-plain s (Some t) h = ((old (point_of t) h.0.0, h.0.1), λ q o. go q o.1 (either q o.0))
+    where
+      go : (q : Point) → is_special ls q ≡ true → In q (points_of before) ⊎ (q ≡ point_of r) → (q ≡ point_of t) ⊎ IsTrue (point_before (point_of t) q)
+      go q u (inl j) = h.1 q (j, u)
+      go q u (inr k) = let f : is_special ls q ≡ false = subst (λ (p : Point). is_special ls p ≡ false) (sym k) s in absurd (cc)
+
+  -- that is
+  module _ (s : is_special ls (point_of r) ≡ true) where
+    first-one : IsFirstSpecial ls before None → IsFirstSpecial ls after (Some r)
+    first-one h = ((new, s), λ q o. go q o.1 (either q o.0))
+      where
+        go : (q : Point) → is_special ls q ≡ true → In q (points_of before) ⊎ (q ≡ point_of r) → (q ≡ point_of r) ⊎ IsTrue (point_before (point_of r) q)
+        go q u (inl j) = let f = h q j in absurd (cc)
+        go q u (inr k) = inl k
+
+    first-later : Every (λ q. IsTrue (point_before q (point_of r))) (points_of before) → (t : CodePoint) → IsFirstSpecial ls before (Some t) → IsFirstSpecial ls after (Some t)
+    first-later b t h = ((old (point_of t) h.0.0, h.0.1), λ q o. go q o.1 (either q o.0))
+      where
+        go : (q : Point) → is_special ls q ≡ true → In q (points_of before) ⊎ (q ≡ point_of r) → (q ≡ point_of t) ⊎ IsTrue (point_before (point_of t) q)
+        go q u (inl j) = h.1 q (j, u)
+        go q u (inr k) = inr (subst (λ (p : Point). IsTrue (point_before (point_of t) p)) (sym k) (Every-at (λ q. IsTrue (point_before q (point_of r))) (points_of before) (point_of t) b h.0.0))
+
+    pub first-special : Every (λ q. IsTrue (point_before q (point_of r))) (points_of before) → (o : Option CodePoint) → IsFirstSpecial ls before o → IsFirstSpecial ls after (option_or o (Some r))
+    first-special b None h = first-one h
+    first-special b (Some t) h = first-later b t h

@@ -1,13 +1,13 @@
 -- Special points: their causes, that walls which aren't live are none of them, and that those ahead are candidates.
-use Rattle.std.proofs.Common.{◌≡◌, ◌≢◌, ℕ, ◌≤◌, sym, ap, subst, ◌∙◌, Bool, true, List, [], ◌∷◌, ◌⊎◌, inl, inr, length, get_or, take, ◌<◌, ◌+◌}
-use Rattle.std.specs.Prelude.{pos, ◌↔◌, ◌&&◌, not, IsTrue, IsFalse, Option, Some, None, MatchOption, option_map, filter}
+use Rattle.std.proofs.Common.{◌≡◌, ◌≢◌, ℕ, ◌≤◌, sym, subst, Bool, true, List, [], ◌∷◌, ◌⊎◌, inl, inr, length, get_or, take, ◌<◌, ◌+◌}
+use Rattle.std.specs.Prelude.{pos, ◌&&◌, not, IsTrue, IsFalse, Option, Some, None, MatchOption, option_map, filter}
 use Rattle.std.specs.List.{list_any}
 use Rattle.scattering.specs.Collections.{In, IsLeast}
 use Rattle.scattering.specs.Series.{Exp, det}
 use Rattle.scattering.specs.Plane.{Point, IsPoint, IsDirection, Beyond, point_before, point_eq}
 use Rattle.scattering.specs.Wall.{Wall, is_on, is_live, is_line, are_parallel, starts_at}
 use Rattle.scattering.specs.ActivePoint.{is_special, walls_on}
-use Rattle.scattering.proofs.Lists.{and-left, and-right, and-in, any-some, any-true, or-out, or-first, or-second, bool_iff, not-out, filter-from, filter-keeps, In-map, In-mapped, In-append}
+use Rattle.scattering.proofs.Lists.{and-left, and-right, and-in, any-some, any-true, or-out, or-first, or-second, bool_iff, not-out, filter-from, filter-keeps, In-mapped, In-append}
 use Rattle.scattering.proofs.Keys.{point_eq-same, int_eq-refl}
 use Rattle.broken_line_theory.proofs.Crossings.{is-zero-or-not}
 use Rattle.plane_geom.specs.declared.Point.{Point as CodePoint}
@@ -16,7 +16,7 @@ use Rattle.scatter_diagram.specs.Shown.{wall_of, walls_of}
 use Rattle.scatter_diagram.specs.declared.wall.Wall.{Wall as CodeWall}
 use Rattle.joint_finder.specs.Joints.{points_of}
 use Rattle.bend_finder.specs.Special.{live_holds, IsCrossedAt, StartsLive}
-use Rattle.bend_finder.specs.Crossings.{CrossesSome, AreCandidates}
+use Rattle.bend_finder.specs.Crossings.{CrossesSome, AreFoundAhead}
 use Rattle.bend_finder.specs.Bends.{IsFirstSpecial}
 use Rattle.std.proofs.lemmas.List.{take_all}
 use Rattle.joint_finder.proofs.Lists.{In-get}
@@ -61,13 +61,6 @@ crossed-special ws p h =
 pub starts-special : (ws : List Wall) (p : Point) → StartsLive ws p → is_special ws p ≡ true
 starts-special ws p h = or-second _ _ (any-true (λ w. starts_at w p && is_live w) ws h.0 h.1 h.2)
 
-pub special-rest : (ws : List Wall) (p : Point) (b : Bool) → (IsCrossedAt ws p → ⊥) → IsTrue b ↔ StartsLive ws p → b ≡ is_special ws p
-special-rest ws p b n h = bool_iff b (is_special ws p) (λ e. starts-special ws p (h.0 e)) (λ e. from (special-out ws p e))
-  where
-    from : IsCrossedAt ws p ⊎ StartsLive ws p → b ≡ true
-    from (inl c) = absurd (n c)
-    from (inr c) = h.1 c
-
 -- ---- walls that aren't live make no point special
 
 pub special-on_live : (ws : List Wall) (p : Point) → is_special (filter is_live ws) p ≡ is_special ws p
@@ -91,35 +84,34 @@ special-on_live ws p = bool_iff (is_special (filter is_live ws) p) (is_special w
 
 -- ---- the special points ahead are candidates
 
-not-parallel : (u v : Wall) → not (are_parallel u v) ≡ true → det u.dir v.dir ≢ pos 0
+pub not-parallel : (u v : Wall) → not (are_parallel u v) ≡ true → det u.dir v.dir ≢ pos 0
 not-parallel u v h z = let e : are_parallel u v ≡ true = rw z (int_eq-refl (pos 0)) in let f = not-out (are_parallel u v) h in cc
 
-module _ (ws : List CodeWall) (p : Point) (e : Exp) (ps : List CodePoint) (far : Bool) (d : IsDirection e) (h : AreCandidates ws p e ps far) where
+module _ (ls : List Wall) (p : Point) (e : Exp) (ps : List CodePoint) (far : Bool) (d : IsDirection e) (h : AreFoundAhead ls p e ps far) where
   -- where no crossing is too far away
-  pub special-listed : IsFalse far → (q : Point) → IsPoint q → Beyond p e q → is_special (walls_of ws) q ≡ true → In q (points_of ps)
-  special-listed near q i b s = go (special-out (walls_of ws) q s)
+  pub special-listed : IsFalse far → (q : Point) → IsPoint q → Beyond p e q → is_special ls q ≡ true → In q (points_of ps)
+  special-listed near q i b s = go (special-out ls q s)
     where
-      crossed : (w : Wall) → In w (walls_of ws) → IsTrue (live_holds w q) → det w.dir e ≢ pos 0 → In q (points_of ps)
-      crossed w k l n = let c : CrossesSome (walls_of ws) p e q = (w, k, (i, b, and-right (is_live w) (is_on w q) l, n)) in h.crossings q c (h.near near q c)
+      crossed : (w : Wall) → In w ls → IsTrue (live_holds w q) → det w.dir e ≢ pos 0 → In q (points_of ps)
+      crossed w k l n = let c : CrossesSome ls p e q = (w, k, (i, b, and-right (is_live w) (is_on w q) l, n)) in h.crossings q c (h.near near q c)
 
-      one : (u v : Wall) → In u (walls_of ws) → IsTrue (live_holds u q) → In v (walls_of ws) → IsTrue (live_holds v q) → det u.dir v.dir ≢ pos 0 → Dec (det u.dir e ≡ pos 0) → Dec (det v.dir e ≡ pos 0) → In q (points_of ps)
+      one : (u v : Wall) → In u ls → IsTrue (live_holds u q) → In v ls → IsTrue (live_holds v q) → det u.dir v.dir ≢ pos 0 → Dec (det u.dir e ≡ pos 0) → Dec (det v.dir e ≡ pos 0) → In q (points_of ps)
       one u v k l m o c (no a) z = crossed u k l a
       one u v k l m o c (yes a) (no z) = crossed v m o z
       one u v k l m o c (yes a) (yes z) = absurd (c (both-along u.dir v.dir e d a z))
 
-      go : IsCrossedAt (walls_of ws) q ⊎ StartsLive (walls_of ws) q → In q (points_of ps)
+      go : IsCrossedAt ls q ⊎ StartsLive ls q → In q (points_of ps)
       go (inl c) =
           let v = c.2.1 in
           one c.0 v.0 c.1 c.2.0 v.1 (and-left (live_holds v.0 q) (not (are_parallel c.0 v.0)) v.2) (not-parallel c.0 v.0 (and-right (live_holds v.0 q) (not (are_parallel c.0 v.0)) v.2))
           (is-zero-or-not (det c.0.dir e)) (is-zero-or-not (det v.0.dir e))
       go (inr s) =
-          let r = In-map wall_of ws s.0 s.1 in
           let a : s.0.at ≡ q = point_eq-same s.0.at q (and-right (not (is_line s.0.kind)) (point_eq s.0.at q) (and-left (starts_at s.0 q) (is_live s.0) s.2)) in
-          h.starts q i (r.0, r.1, (sym a ∙ ap (λ (w : Wall). w.at) r.2, b))
+          h.starts q (s.0, s.1, sym a, b)
 
   -- so the least of them is the first candidate that is special
-  pub least-special : IsFalse far → (o : Option CodePoint) → IsFirstSpecial (walls_of ws) ps o
-      → MatchOption (option_map point_of o) ((q : Point) → IsPoint q × Beyond p e q × IsTrue (is_special (walls_of ws) q) → ⊥) (IsLeast point_before (λ q. IsPoint q × Beyond p e q × IsTrue (is_special (walls_of ws) q)))
+  pub least-special : IsFalse far → (o : Option CodePoint) → IsFirstSpecial ls ps o
+      → MatchOption (option_map point_of o) ((q : Point) → IsPoint q × Beyond p e q × IsTrue (is_special ls q) → ⊥) (IsLeast point_before (λ q. IsPoint q × Beyond p e q × IsTrue (is_special ls q)))
   least-special near None f = λ q s. let g = f q (special-listed near q s.0 s.1 s.2) in let t = s.2 in absurd (cc)
   least-special near (Some r) f = (
     (let k = h.each (point_of r) f.0.0 in (k.0, k.1, f.0.1)),

@@ -1,10 +1,7 @@
--- Where a stretch crosses walls, wall by wall, and the candidates of a stretch.
+-- Where a stretch crosses walls, wall by wall, and which of their points it has.
 use Rattle.std.proofs.Common.{◌≡◌, ◌≢◌, zero, suc, refl, sym, subst, ◌∙◌, Bool, true, false, List, [], ◌∷◌, ◌++◌, ◌⊎◌, inl, inr, arith}
 use Rattle.std.specs.Prelude.{ℤ, pos, negsuc, ◌+ℤ◌, ◌*ℤ◌, ◌≤ℤ◌, ◌↔◌}
-use Rattle.std.specs.List.{dedup}
-use Rattle.std.specs.List.Sorted.{IsPermutation, IsSorted}
 use Rattle.std.proofs.lemmas.Int.{ints}
-use Rattle.std.proofs.lemmas.List.Sorted.{IsPermutation-sym}
 use Rattle.sum_algebra.proofs.Ring.{var, nought, ring}
 use Rattle.sum_algebra.proofs.IntegerRing.{ints_ring, ◌:+◌, ◌:*◌, ◌:-◌, X, Y, Z}
 use Rattle.sum_algebra.proofs.Integers.{zero-or-not}
@@ -24,19 +21,18 @@ use Rattle.plane_geom.specs.declared.Point.{Point as CodePoint}
 use Rattle.plane_geom.specs.declared.Direction.{Direction}
 use Rattle.plane_geom.specs.declared.Support.{Support}
 use Rattle.plane_geom.specs.declared.Support.TheVariants.{Half}
-use Rattle.plane_geom.specs.Shown.{point_of, vector_of, support_dir, OnSupport, position_order}
+use Rattle.plane_geom.specs.Shown.{point_of, vector_of, support_dir, OnSupport}
 use Rattle.plane_geom.proofs.Meets.{det-back}
-use Rattle.scatter_diagram.specs.Shown.{wall_of, walls_of, IsSupportOf}
+use Rattle.scatter_diagram.specs.Shown.{wall_of, IsSupportOf}
 use Rattle.scatter_diagram.specs.declared.wall.Wall.{Wall as CodeWall}
 use Rattle.scatter_diagram.proofs.Walls.{is-wall}
-use Rattle.joint_finder.specs.Joints.{points_of, same_point}
+use Rattle.joint_finder.specs.Joints.{points_of}
 use Rattle.joint_finder.specs.Crossings.{Adds}
 use Rattle.joint_finder.proofs.LiveWalls.{support-dir, zero-first, back}
 use Rattle.joint_finder.proofs.Meetings.{one-point}
-use Rattle.joint_finder.proofs.Sorted.{sorted-points, kept-points, points-from}
 use Rattle.bend_finder.specs.declared.crossings.Crossing.{Crossing}
 use Rattle.bend_finder.specs.declared.crossings.Crossing.TheVariants.{Missed, TooFar, At}
-use Rattle.bend_finder.specs.Crossings.{MeetsAcross, CrossesSome, IsCrossing, IsUnless, AreCrossings, IsStartOf, IsStartAhead, AreCandidates}
+use Rattle.bend_finder.specs.Crossings.{MeetsAcross, CrossesSome, IsCrossing, IsUnless, AreCrossings, IsStartOf, IsStartOfSome}
 
 -- ---- on the stretch, and beyond its first point
 
@@ -187,26 +183,11 @@ module _ (ls : List Wall) (p : Point) (e : Exp) (ps : List CodePoint) (far : Boo
       close t q (inl k) = h.near t q k
       close t q (inr k) = subst IsNear (sym (crosses-once p e w q (point_of r) i j k c)) r.near
 
--- ---- all candidates
+-- ---- points of walls
 
-pub none-started : (p : Point) (e : Exp) (ps : List CodePoint) → Adds (IsStartAhead [] p e) ps ps
+pub none-started : (p : Point) (e : Exp) (ps : List CodePoint) → Adds (IsStartOfSome [] p e) ps ps
 none-started p e ps = record { keeps = λ q i. i; each = λ q i. inl i; all = λ q i s. absurd s.1 }
 
 -- the point of a wall that isn't on the stretch
 pub not-started : (p : Point) (e : Exp) (w : CodeWall) (ps : List CodePoint) → (Beyond p e (point_of w.at) → ⊥) → Adds (IsStartOf p e w) ps ps
 not-started p e w ps n = record { keeps = λ q i. i; each = λ q i. inl i; all = λ q i s. absurd (n (subst (Beyond p e) s.0 s.1)) }
-
-pub are-candidates : (ws : List CodeWall) (p : Point) (e : Exp) (os bs cs : List CodePoint) (far : Bool) → AreCrossings (walls_of ws) p e os far → Adds (IsStartAhead ws p e) os bs → IsPermutation bs cs → IsSorted position_order cs
-    → AreCandidates ws p e (dedup same_point cs) far
-are-candidates ws p e os bs cs far h k m s = record {
-  sorted = sorted-points cs s;
-  each = λ q i. from q (k.each q (points-from bs cs q (IsPermutation-sym bs cs m) i));
-  crossings = λ q c l. kept-points bs cs q m (k.keeps q (h.all q c l));
-  starts = λ q i c. kept-points bs cs q m (k.all q i c);
-  far = h.far;
-  near = h.near;
-}
-  where
-    from : (q : Point) → In q (points_of os) ⊎ IsStartAhead ws p e q → IsPoint q × Beyond p e q
-    from q (inl i) = let c = h.each q i in (c.2.0, c.2.1)
-    from q (inr c) = (subst IsPoint (sym c.2.0) c.0.at.reduced, c.2.1)

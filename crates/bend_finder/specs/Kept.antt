@@ -2,19 +2,21 @@
 --     AreKeptPowers ls k              what k keeps are powers of the product of the functions of the live ones of the walls ls
 --     AreKeptIn m n                m has no entry that n hasn't
 --     IsTaken P k most m v      v has P at the key k, and is of order `most` at least
+--     IsReadyWith f k           what a finder keeps
 use Rattle.std.specs.Prelude.{◌≡◌, ℕ, ◌≤◌, List, Some}
 use Rattle.std.specs.BTreeMap.{BTreeMap, get}
 use Rattle.std.specs.Ordering.{int_cmp, nat_cmp, ordering_then}
 use Rattle.std.specs.declared.cmp.Ordering.{Ordering}
 use Rattle.scattering.specs.Plane.{Point}
-use Rattle.scattering.specs.Wall.{Wall}
+use Rattle.scattering.specs.Collections.{Every}
+use Rattle.scattering.specs.Wall.{Wall, IsWall}
 use Rattle.trunc_series.specs.Shown.{Seen, IsSeriesOf}
 use Rattle.trunc_series.specs.Capped.{IsMajorantOf}
-use Rattle.scatter_diagram.specs.declared.wall.Wall.{Wall as CodeWall}
-use Rattle.scatter_diagram.specs.Shown.{walls_of}
 use Rattle.bend_finder.specs.declared.power_key.PowerKey.{PowerKey}
 use Rattle.bend_finder.specs.declared.kept.KeptPowers.{KeptPowers}
-use Rattle.bend_finder.specs.Live.{IsReady}
+use Rattle.limits.specs.Limits.{highest_order}
+use Rattle.bend_finder.specs.Ahead.{SeenFinder}
+use Rattle.bend_finder.specs.Live.{live_of}
 use Rattle.bend_finder.specs.Powers.{power_majorant, power_series}
 
 -- the order of keys: by x, y, w and the number
@@ -48,6 +50,7 @@ abbrev pub IsTaken : (PowerKey → Seen → Type 0) → PowerKey → ℕ → BTr
 IsTaken P k most m v = (most ≤ v.order) × (AllHave P m → P k v)
 
 -- what a finder keeps
-pub record IsReadyWith (b : ℕ) (ws : List Wall) (live : List CodeWall) (k : KeptPowers) : Type 0 where
-  pub ready : IsReady b ws live
-  pub kept : AreKeptPowers (walls_of live) k
+pub record IsReadyWith (f : SeenFinder) (k : KeptPowers) : Type 0 where
+  pub low : f.limit ≤ highest_order
+  pub proper : Every (IsWall f.limit) (live_of f)
+  pub kept : AreKeptPowers (live_of f) k

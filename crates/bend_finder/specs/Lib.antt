@@ -1,4 +1,5 @@
 pub mod Ahead
+pub mod Runs
 pub mod Live
 pub mod Crossings
 pub mod Special

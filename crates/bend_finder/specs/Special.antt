@@ -13,10 +13,6 @@ live_starts w p = starts_at w p && is_live w
 abbrev pub live_crosses : Wall → Point → Wall → Bool
 live_crosses v p u = live_holds v p && not (are_parallel u v)
 
--- a live wall is on p
-abbrev pub HoldsSome : List Wall → Point → Type 0
-HoldsSome ws p = (w : Wall) × In w ws × IsTrue (live_holds w p)
-
 -- a live wall on p isn't parallel to u
 abbrev pub IsCrossedBy : List Wall → Point → Wall → Type 0
 IsCrossedBy ws p u = (v : Wall) × In v ws × IsTrue (live_crosses v p u)

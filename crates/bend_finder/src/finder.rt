@@ -12,14 +12,12 @@ ghost use Rattle.bend_finder.specs.Ahead.{finder, IsNonzero, IsTraceable, IsAhea
 
 use crate::ahead::Ahead;
 use crate::bend::Bend;
-use crate::candidates::candidates_ahead;
 use crate::direction::direction_of;
 use crate::kept::KeptPowers;
-use crate::live::live_walls;
-use crate::special::is_on_some;
-use crate::turns::{bends_at, first_special};
+use crate::live_walls::LiveWalls;
+use crate::turns::turns_at;
 use plane_geom::Point;
-use scatter_diagram::{Diagram, Wall};
+use scatter_diagram::Diagram;
 use std::alloc::{AllocError, Global};
 use std::marker::Model;
 use trunc_series::Exp;
@@ -28,23 +26,20 @@ use trunc_series::Exp;
 #[derive(Drop)]
 pub struct BendFinder<'e> {
     alloc: Global,
-    diagram: &'e Diagram,
-    limit: u32,
     /// Those that are live then.
-    live: Vec<Wall>,
+    live: LiveWalls<'e>,
     kept: KeptPowers,
 }
 
 impl<'e> Model for BendFinder<'e> {
-    ghost use Rattle.scattering.specs.Wall.{walls};
-    ghost use Rattle.bend_finder.specs.Ahead.{SeenFinder, finder};
+    ghost use Rattle.bend_finder.specs.Ahead.{SeenFinder};
     ghost use Rattle.bend_finder.specs.Kept.{IsReadyWith};
 
     ghost Value = { SeenFinder };
 
-    ghost view = { λ f. finder (walls f.diagram.now.diagram) f.limit };
+    ghost view = { λ f. f.live };
 
-    ghost invariant = { λ f. IsReadyWith f.limit (walls f.diagram.now.diagram) f.live.items f.kept };
+    ghost invariant = { λ f. IsReadyWith f.live f.kept };
 }
 
 impl<'e> BendFinder<'e> {
@@ -53,12 +48,10 @@ impl<'e> BendFinder<'e> {
         requires { limit ≤ e.now.order }
         ensures { IfOk result (λ f. f ≡ finder (walls e.now.diagram) limit) }
     {
-        let order = e.order();
-        let live = live_walls(alloc, e, limit.min(order))?;
+        // the diagram's order is asked for its bound
+        let live = LiveWalls::new(alloc, e, limit.min(e.order()))?;
         Ok(BendFinder {
             alloc,
-            diagram: e,
-            limit,
             live,
             kept: KeptPowers::new(alloc),
         })
@@ -68,7 +61,7 @@ impl<'e> BendFinder<'e> {
     pub fn is_on_live_wall(&self, p: &Point) -> bool
         ensures { result ≡ is_on_live (cut_walls self.now.limit self.now.walls) (point_of p.now) }
     {
-        is_on_some(self.live.as_slice(), p)
+        self.live.is_on(p)
     }
 
     /// What the stretch from a point, traced backwards with the exponent x, finds ahead of it. Bends have keys of
@@ -82,13 +75,13 @@ impl<'e> BendFinder<'e> {
             (λ a. IsAhead self.old.walls self.old.limit (point_of p.now) (exp_of x) most a) }
     {
         let d = direction_of(x);
-        let live = self.live.as_slice();
-        let found = candidates_ahead(self.alloc, live, p, &d)?;
+        let found = self.live.candidates(self.alloc, p, &d)?;
         let points = found.points.as_slice();
+        let turns = turns_at(&mut self.kept, self.alloc, &self.live, points, x, most)?;
         Ok(Ahead {
-            bends: bends_at(&mut self.kept, self.alloc, live, points, x, most)?,
+            bends: turns.bends,
             far: found.far,
-            special: first_special(live, points),
+            special: turns.special,
         })
     }
 
@@ -104,10 +97,15 @@ impl<'e> BendFinder<'e> {
             (cut_walls self.old.limit self.old.walls) (point_of bend.now.at) (exp_of x))
             (key_of bend.now.key)) }
     {
-        let live = self.live.as_slice();
-        let value = self
-            .kept
-            .coefficient(self.alloc, live, &bend.at, x, &bend.key)?;
-        Ok(value)
+        let (at, key) = (&bend.at, &bend.key);
+        match self.live.on_plain(at) {
+            Some(walls) => self.kept.coefficient(self.alloc, walls, at, x, key),
+            // no broken line bends at a special point
+            None => {
+                let walls = self.live.listed(self.alloc)?;
+                self.kept
+                    .coefficient(self.alloc, walls.as_slice(), at, x, key)
+            }
+        }
     }
 }

@@ -11,6 +11,7 @@ ghost use Rattle.trunc_series.specs.Capped.{IsMajorantOf};
 ghost use Rattle.scatter_diagram.specs.Shown.{walls_of};
 ghost use Rattle.bend_finder.specs.Ahead.{IsTraceable};
 ghost use Rattle.bend_finder.specs.Powers.{AreAtLeast, power_majorant, power_series};
+ghost use Rattle.bend_finder.specs.Runs.{HasLiveOn};
 ghost use Rattle.bend_finder.specs.Kept.{AreKeptPowers, IsMajorantAt, IsSeriesAt, AreKeptIn, IsTaken, key_point};
 
 use crate::power_key::{PowerKey, key_at};
@@ -42,7 +43,8 @@ impl KeptPowers {
         }
     }
 
-    /// |F|^n to degree `most`, for the exponent x: n is |det(d, x)| for the direction d of the walls.
+    /// |F|^n to degree `most`, for the exponent x: n is |det(d, x)| for the direction d of the walls. Of all live
+    /// walls, those on the point are among `walls`.
     pub(crate) fn majorant(
         &mut self,
         alloc: Global,
@@ -54,10 +56,11 @@ impl KeptPowers {
         requires small { IsTraceable x }
         requires most { most ≤ highest_order }
         requires order { AreAtLeast most walls.now }
-        requires kept { AreKeptPowers (walls_of walls.now) self.old }
-        ensures power { IfOk result (λ m. IsMajorantOf m most
-            (bend_majorant most (walls_of walls.now) (point_of q.now) (exp_of x))) }
-        ensures kept { AreKeptPowers (walls_of walls.now) self.new }
+        ensures power { IfOk result (λ m. (ls : List PlaneWall) →
+            HasLiveOn ls (point_of q.now) (walls_of walls.now) → AreKeptPowers ls self.old →
+            IsMajorantOf m most (bend_majorant most ls (point_of q.now) (exp_of x))) }
+        ensures kept { (ls : List PlaneWall) → HasLiveOn ls (point_of q.now) (walls_of walls.now) →
+            AreKeptPowers ls self.old → AreKeptPowers ls self.new }
     {
         let key = key_at(q, across(walls, q, x));
         let power = take_majorant(&mut self.majorants, alloc, walls, q, key, most)?;
@@ -66,7 +69,7 @@ impl KeptPowers {
         Ok(low)
     }
 
-    /// The coefficient of F^n at a key, for the exponent x.
+    /// The coefficient of F^n at a key, for the exponent x, likewise.
     pub(crate) fn coefficient(
         &mut self,
         alloc: Global,
@@ -80,10 +83,12 @@ impl KeptPowers {
         requires order { AreAtLeast (degree (key_of key.now)) walls.now }
         requires light { mass_to (degree (key_of key.now)) (bend_majorant (degree (key_of key.now))
             (walls_of walls.now) (point_of q.now) (exp_of x)) ≤ largest_weight }
-        requires kept { AreKeptPowers (walls_of walls.now) self.old }
-        ensures value { IfOk result (λ c. c ≡ coef (bend_series (degree (key_of key.now))
-            (walls_of walls.now) (point_of q.now) (exp_of x)) (key_of key.now)) }
-        ensures kept { AreKeptPowers (walls_of walls.now) self.new }
+        ensures value { IfOk result (λ c. (ls : List PlaneWall) →
+            HasLiveOn ls (point_of q.now) (walls_of walls.now) → AreKeptPowers ls self.old →
+            c ≡ coef (bend_series (degree (key_of key.now)) ls (point_of q.now) (exp_of x))
+            (key_of key.now)) }
+        ensures kept { (ls : List PlaneWall) → HasLiveOn ls (point_of q.now) (walls_of walls.now) →
+            AreKeptPowers ls self.old → AreKeptPowers ls self.new }
     {
         let place = key_at(q, across(walls, q, x));
         let power = take_series(&mut self.series, alloc, walls, q, place, key.degree())?;
@@ -105,7 +110,9 @@ fn take_majorant(
     requires most { most ≤ highest_order }
     requires order { AreAtLeast most walls.now }
     requires point { key_point key ≡ point_of q.now }
-    ensures power { IfOk result (IsTaken (IsMajorantAt (walls_of walls.now)) key most kept.old) }
+    ensures power { IfOk result (λ v. (ls : List PlaneWall) →
+        HasLiveOn ls (point_of q.now) (walls_of walls.now) →
+        IsTaken (IsMajorantAt ls) key most kept.old v) }
     ensures part { AreKeptIn kept.new kept.old }
 {
     if let Some(power) = kept.remove(&key) {
@@ -132,7 +139,9 @@ fn take_series(
     requires times { key.times ≤ 2 ^ 25 }
     requires light { mass_to most (power_majorant most (walls_of walls.now) (point_of q.now) key.times)
         ≤ largest_weight }
-    ensures power { IfOk result (IsTaken (IsSeriesAt (walls_of walls.now)) key most kept.old) }
+    ensures power { IfOk result (λ v. (ls : List PlaneWall) →
+        HasLiveOn ls (point_of q.now) (walls_of walls.now) →
+        IsTaken (IsSeriesAt ls) key most kept.old v) }
     ensures part { AreKeptIn kept.new kept.old }
 {
     if let Some(power) = kept.remove(&key) {

@@ -11,12 +11,14 @@ mod direction;
 mod finder;
 mod kept;
 mod live;
+mod live_walls;
 mod masses;
 mod power_key;
 mod powers;
 mod products;
 mod series_powers;
 mod special;
+mod spots;
 mod turns;
 
 pub use ahead::Ahead;

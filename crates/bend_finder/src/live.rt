@@ -4,7 +4,8 @@ ghost use Rattle.std.specs.Prelude.{◌≡◌, ◌≤◌, ◌++◌, ◌∷◌, [
 ghost use Rattle.scattering.specs.Wall.{walls};
 ghost use Rattle.scatter_diagram.specs.Shown.{wall_of, walls_of};
 ghost use Rattle.scatter_diagram.specs.Listed.{AreOfOrder};
-ghost use Rattle.bend_finder.specs.Live.{live_cut};
+ghost use Rattle.bend_finder.specs.Live.{live_cut, IsReady};
+ghost use Rattle.bend_finder.specs.Powers.{AreAtLeast};
 
 use scatter_diagram::{Diagram, Wall};
 use std::alloc::{AllocError, Global};
@@ -22,6 +23,40 @@ pub(crate) fn live_walls(alloc: Global, e: &Diagram, limit: u32) -> Result<Vec<W
     }
     for i in 0..e.ray_count() {
         add_live(&mut live, e.ray(i), limit)?;
+    }
+    Ok(live)
+}
+
+/// The same, run by run: the walls along each line together, where there are any.
+pub(crate) fn live_runs(
+    alloc: Global,
+    e: &Diagram,
+    limit: u32,
+) -> Result<Vec<Vec<Wall>>, AllocError>
+    requires { limit ≤ e.now.order }
+    ensures { IfOk result (λ r. IsReady limit e.now r.items) }
+{
+    let mut runs = Vec::new(alloc);
+    // the diagram's order is asked for what its type says of its walls
+    let most = limit.min(e.order());
+    for i in 0..e.run_count() {
+        let run = live_run(alloc, e.along(i), most)?;
+        if run.len() > 0 {
+            runs.push(run)?;
+        }
+    }
+    Ok(runs)
+}
+
+/// The walls cut to degree `limit`, without those whose functions become 1, in their order.
+fn live_run(alloc: Global, walls: &[Wall], limit: u32) -> Result<Vec<Wall>, AllocError>
+    requires { AreAtLeast limit walls.now }
+    ensures walls { IfOk result (λ r. walls_of r.items ≡ live_cut limit (walls_of walls.now)) }
+    ensures order { IfOk result (λ r. AreOfOrder limit r.items) }
+{
+    let mut live = Vec::new(alloc);
+    for w in walls {
+        add_live(&mut live, w, limit)?;
     }
     Ok(live)
 }

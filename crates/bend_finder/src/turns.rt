@@ -1,54 +1,67 @@
 // The bends at points.
 
-ghost use Rattle.std.specs.Prelude.{◌≡◌, ◌≤◌, ◌++◌, IfOk, OnOk, MatchOption, IsTrue};
+ghost use Rattle.std.specs.Prelude.{◌≡◌, ◌≤◌, ◌++◌, IfOk, OnOk, IsTrue};
 ghost use Rattle.limits.specs.Limits.{highest_order};
 ghost use Rattle.scattering.specs.Collections.{EveryPair};
 ghost use Rattle.scattering.specs.Plane.{point_before};
 ghost use Rattle.plane_geom.specs.Shown.{point_of};
 ghost use Rattle.trunc_series.specs.Shown.{exp_of};
-ghost use Rattle.trunc_series.specs.Capped.{IsMajorant};
-ghost use Rattle.scatter_diagram.specs.Shown.{walls_of};
 ghost use Rattle.joint_finder.specs.Joints.{points_of};
 ghost use Rattle.bend_finder.specs.Ahead.{IsTraceable, bends_of};
 ghost use Rattle.bend_finder.specs.Bends.{AreBends, told_bends, IsFirstSpecial};
-ghost use Rattle.bend_finder.specs.Powers.{AreAtLeast};
+ghost use Rattle.bend_finder.specs.Live.{live_of};
 ghost use Rattle.bend_finder.specs.Kept.{AreKeptPowers};
 
 use crate::bend::Bend;
 use crate::kept::KeptPowers;
+use crate::live_walls::LiveWalls;
 use crate::masses::masses;
-use crate::special::is_special;
 use plane_geom::Point;
-use scatter_diagram::Wall;
 use std::alloc::{AllocError, Global};
 use trunc_series::{Exp, Majorant};
 
-/// The bends of degree at most `most` at those of the points that aren't special, with their weights.
-pub(crate) fn bends_at(
+/// The bends at points, and the first of these that is special.
+#[derive(Drop)]
+pub(crate) struct Turns {
+    pub(crate) bends: Vec<(Bend, u128)>,
+    pub(crate) special: Option<Point>,
+}
+
+/// The bends of degree at most `most` at those of the points that aren't special, with their weights, and the first
+/// point that is.
+pub(crate) fn turns_at(
     kept: &mut KeptPowers,
     alloc: Global,
-    walls: &[Wall],
+    live: &LiveWalls<'_>,
     points: &[Point],
     x: Exp,
     most: u32,
-) -> Result<Vec<(Bend, u128)>, AllocError>
+) -> Result<Turns, AllocError>
     requires small { IsTraceable x }
-    requires most { most ≤ highest_order }
-    requires order { AreAtLeast most walls.now }
+    requires low { live.now.limit ≤ highest_order }
+    requires most { most ≤ live.now.limit }
     requires sorted { EveryPair (λ p q. IsTrue (point_before p q)) (points_of points.now) }
-    requires kept { AreKeptPowers (walls_of walls.now) kept.old }
-    ensures bends { IfOk result (λ r. AreBends most (walls_of walls.now) (exp_of x)
-        (points_of points.now) (bends_of r.items)) }
-    ensures kept { AreKeptPowers (walls_of walls.now) kept.new }
+    requires kept { AreKeptPowers (live_of live.now) kept.old }
+    ensures bends { IfOk result (λ r. AreBends most (live_of live.now) (exp_of x)
+        (points_of points.now) (bends_of r.bends.items)) }
+    ensures special { IfOk result (λ r. IsFirstSpecial (live_of live.now) points.now r.special) }
+    ensures kept { AreKeptPowers (live_of live.now) kept.new }
 {
     let mut bends = Vec::new(alloc);
+    let mut special = None;
     for q in points {
-        if !is_special(walls, q) {
-            let power = kept.majorant(alloc, walls, q, x, most)?;
-            add_bends(&mut bends, alloc, q, &power)?;
+        match live.on_plain(q) {
+            None => special = special.or(Some(*q)),
+            Some(walls) => {
+                // a bend has degree 1 at least
+                if most > 0 {
+                    let power = kept.majorant(alloc, walls, q, x, most)?;
+                    add_bends(&mut bends, alloc, q, &power)?;
+                }
+            }
         }
     }
-    Ok(bends)
+    Ok(Turns { bends, special })
 }
 
 /// Appends the bends at a point by the terms of |F|^n of degree at least 1.
@@ -71,17 +84,4 @@ fn add_bends(
         }
     }
     Ok(())
-}
-
-/// The first point that is special.
-pub(crate) fn first_special(walls: &[Wall], points: &[Point]) -> Option<Point>
-    requires { EveryPair (λ p q. IsTrue (point_before p q)) (points_of points.now) }
-    ensures { IsFirstSpecial (walls_of walls.now) points.now result }
-{
-    for q in points {
-        if is_special(walls, q) {
-            return Some(*q);
-        }
-    }
-    None
 }

@@ -4,7 +4,7 @@ use Rattle.plane_geom.specs.Shown.{point_of, vector_of}
 use Rattle.scatter_diagram.specs.declared.wall.Wall.{Wall as CodeWall}
 use Rattle.joint_finder.specs.Crossings.{Adds}
 use Rattle.joint_finder.proofs.Meetings.{some-more, adds-one}
-use Rattle.bend_finder.specs.Crossings.{IsStartOf, IsStartAhead}
+use Rattle.bend_finder.specs.Crossings.{IsStartOf, IsStartOfSome}
 use Rattle.bend_finder.proofs.WallCrossings.{none-started, not-started}
 use Rattle.bend_finder.proofs.candidates.add_starts.Goals as goal
 use Rattle.bend_finder.proofs.candidates.add_starts.Goals.{then-is_ahead+in_ok-push, else-is_ahead}
@@ -30,4 +30,4 @@ loop-w-preserved c =
 
 pub returns : goal.returns
 returns c =
-    subst (λ (ws : List CodeWall). Adds (IsStartAhead ws (point_of c.args.p.now) (vector_of c.args.d.now)) c.args.points.now.items c.loop-w.points.items) (take_all c.loop-w.w-index c.args.walls.now c.loop-w-test.false) c.loop-w.invariant
+    subst (λ (ws : List CodeWall). Adds (IsStartOfSome ws (point_of c.args.p.now) (vector_of c.args.d.now)) c.args.points.now.items c.loop-w.points.items) (take_all c.loop-w.w-index c.args.walls.now c.loop-w-test.false) c.loop-w.invariant

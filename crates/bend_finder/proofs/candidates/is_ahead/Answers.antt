@@ -1,6 +1,8 @@
 use Rattle.std.proofs.Common.{sym, subst}
-use Rattle.scattering.specs.Plane.{Beyond}
-use Rattle.plane_geom.specs.Shown.{point_of, vector_of}
+use Rattle.std.specs.Prelude.{◌↔◌, IsTrue}
+use Rattle.scattering.specs.Plane.{FromOn, Beyond}
+use Rattle.plane_geom.specs.declared.Support.{Support}
+use Rattle.plane_geom.specs.Shown.{point_of, vector_of, OnSupport}
 use Rattle.plane_theory.proofs.Points.{beyond-from}
 use Rattle.plane_theory.proofs.Directions.{direction-not_origin}
 use Rattle.bend_finder.proofs.WallCrossings.{from-beyond, not-beyond}
@@ -14,7 +16,9 @@ returns-in-Equal c = (
 )
 
 pub returns-in_default : goal.returns-in_default
-returns-in_default c = (
-  λ t. from-beyond (point_of c.args.p.now) (vector_of c.args.d.now) (point_of c.args.q.now) c.args.p.now.reduced c.args.q.now.reduced (c.on.ensures.0 t) (λ e. c.in_default.not-Equal (c.compare.ensures.equal.1 (sym e))),
-  λ b. c.on.ensures.1 (beyond-from (point_of c.args.p.now) (vector_of c.args.d.now) (point_of c.args.q.now) b),
-)
+returns-in_default c =
+    let o : IsTrue c.on.result ↔ FromOn (point_of c.args.p.now) (vector_of c.args.d.now) (point_of c.args.q.now) =
+    subst (λ (s : Support). IsTrue c.on.result ↔ OnSupport s (point_of c.args.q.now)) c.stretch.ensures c.on.ensures in (
+      λ t. from-beyond (point_of c.args.p.now) (vector_of c.args.d.now) (point_of c.args.q.now) c.args.p.now.reduced c.args.q.now.reduced (o.0 t) (λ e. c.in_default.not-Equal (c.compare.ensures.equal.1 (sym e))),
+      λ b. o.1 (beyond-from (point_of c.args.p.now) (vector_of c.args.d.now) (point_of c.args.q.now) b),
+    )

@@ -1,21 +1,29 @@
-use Rattle.std.proofs.Common.{◌≡◌, ◌∙◌, ℕ, ap, subst, arith}
+use Rattle.std.proofs.Common.{◌≡◌, ◌∙◌, sym, ap, subst, arith}
 use Rattle.scattering.specs.Wall.{walls}
-use Rattle.scatter_diagram.specs.Shown.{walls_of}
-use Rattle.scatter_diagram.specs.Listed.{AreOfOrder}
+use Rattle.bend_finder.specs.Ahead.{SeenFinder, finder}
 use Rattle.bend_finder.specs.Live.{live_cut}
+use Rattle.bend_finder.specs.Kept.{IsReadyWith}
+use Rattle.bend_finder.proofs.LiveCut.{live-proper}
 use Rattle.bend_finder.proofs.finder.BendFinder.new.Goals as goal
 
 pub invariant_of-result : goal.invariant_of-result
 invariant_of-result c =
-    let o = c.order-order.ensures in
-    let r = c.requires in
+    let ws = walls c.args.e.now.diagram in
+    let n = c.min.result in
+    let o = c.order.ensures in
+    let v = o.value in
+    let b = o.bound in
     let m = c.min.ensures in
-    let e : c.min.result ≡ c.args.limit = let v = o.value in omega (arith, v, r, m) in
-    record {
-      ready = record {
-        low = (let v = o.value in let b = o.bound in omega (arith, v, b, r));
-        walls = c.in_ok-live.ensures.walls ∙ ap (λ n. live_cut n (walls c.args.e.now.diagram)) e;
-        order = subst (λ (n : ℕ). AreOfOrder n c.in_ok-live.live.items) e c.in_ok-live.ensures.order;
-      };
-      kept = c.new.ensures (walls_of c.in_ok-live.live.items);
-    }
+    subst (λ (f : SeenFinder). IsReadyWith f c.new-2.result) (sym c.in_ok-live.ensures) (record {
+      low = omega (arith, v, b, m);
+      proper = live-proper c.args.e.now.order n ws o.proper;
+      kept = c.new-2.ensures (live_cut n ws);
+    })
+
+pub returns : goal.returns
+returns c =
+    let o = c.order.ensures.value in
+    let m = c.min.ensures in
+    let r = c.requires in
+    let e : c.min.result ≡ c.args.limit = omega (arith, o, r, m) in
+    c.in_ok-live.ensures ∙ ap (finder (walls c.args.e.now.diagram)) e
