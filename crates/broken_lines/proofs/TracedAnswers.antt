@@ -37,15 +37,12 @@ on-err : {T E : Type 0} (r : Result T E) (P Q : E → Type 0) → ((e : E) → P
 on-err (Ok x) P Q f h = tt
 on-err (Err e) P Q f h = f e h
 
-module _ (ws : List Wall) (k : Ask) (ready : IsAskReady ws k) (ordered : IsOrdered exp_cmp k.known) (b : ℕ) (same : k.limit ≡ b) (free : is_on_live (cut_walls b ws) (point_of k.at) ≡ false) (moves : exp_of k.m ≢ origin) where
+module _ (ws : List Wall) (k : Ask) (ready : IsAskReady ws k) (ordered : IsOrdered exp_cmp k.known) (free : is_on_live (cut_walls k.limit ws) (point_of k.at) ≡ false) (moves : exp_of k.m ≢ origin) where
   abbrev m : Exp
   m = exp_of k.m
 
   abbrev q : Point
   q = point_of k.at
-
-  own-free : is_on_live (cut_walls k.limit ws) q ≡ false
-  own-free = subst (λ (n : ℕ). is_on_live (cut_walls n ws) q ≡ false) (sym same) free
 
   few-known : AtMost most_reached (λ d. ReachTo ws k.limit d k.limit)
   few-known =
@@ -53,10 +50,10 @@ module _ (ws : List Wall) (k : Ask) (ready : IsAskReady ws k) (ordered : IsOrder
       (λ x n e. In-mapped (λ (e : CodeExp × ℕ). e.0) k.known.entries (x, n) (known-key k.known.entries x n e))
       (let l = ready.reach.few in let e = length-map k.known.entries (λ (e : CodeExp × ℕ). e.0) in omega (arith, l, e)) ready.reach
 
-  pub run-answer : (f : AskFault) → AreTooManyTails ws k f → IsTailsFault ws b m q f
-  run-answer f h = subst (λ (n : ℕ). IsTailsFault ws n m q f) same (many-fault ws k f own-free moves few-known h)
+  pub run-answer : (f : AskFault) → AreTooManyTails ws k f → IsTailsFault ws k.limit m q f
+  run-answer f h = many-fault ws k f free moves few-known h
 
-  pub roots-answer : (f : AskFault) (s : SeenTracing) (ds : List CodeExp) → s ≡ nothing_traced → ds ≡ keys k.known → IsPastMost (s.found + length (roots k ds)) f → IsTailsFault ws b m q f
+  pub roots-answer : (f : AskFault) (s : SeenTracing) (ds : List CodeExp) → s ≡ nothing_traced → ds ≡ keys k.known → IsPastMost (s.found + length (roots k ds)) f → IsTailsFault ws k.limit m q f
   roots-answer f s ds e g h =
       run-answer f (roots-fault ws k f ready ordered
       (subst (λ (t : SeenTracing). IsPastMost (t.found + length (roots k (keys k.known))) f) e (subst (λ (xs : List CodeExp). IsPastMost (s.found + length (roots k xs)) f) g h)))
@@ -70,19 +67,18 @@ module _ (ws : List Wall) (k : Ask) (ready : IsAskReady ws k) (ordered : IsOrder
     no-more : (seen_tracing t).nodes ≡ []
     no-more = ap (λ (ns : List Node). reverse (map seen_node ns)) done
 
-    pub tails-answer : (r : Result Traced AskFault) → IfOk r (λ a. a.tails ≡ t.tails) → IfOk r (λ a. (a.weight ≡ t.weight) × (t.weight ≤ largest_weight)) → IfOk r (λ a. AreTails ws b m q a)
+    pub tails-answer : (r : Result Traced AskFault) → IfOk r (λ a. a.tails ≡ t.tails) → IfOk r (λ a. (a.weight ≡ t.weight) × (t.weight ≤ largest_weight)) → IfOk r (λ a. AreTails ws k.limit m q a)
     tails-answer r =
-        both-ok r (λ a. a.tails ≡ t.tails) (λ a. (a.weight ≡ t.weight) × (t.weight ≤ largest_weight)) (λ a. AreTails ws b m q a)
-        (λ a e h. subst (λ (n : ℕ). AreTails ws n m q a) same
-        (moving-tails ws k.limit m q own-free moves a
+        both-ok r (λ a. a.tails ≡ t.tails) (λ a. (a.weight ≡ t.weight) × (t.weight ≤ largest_weight)) (λ a. AreTails ws k.limit m q a)
+        (λ a e h. moving-tails ws k.limit m q free moves a
         (subst (λ (ts : List CodeTail). AreAllTails ws k.limit m q (seen_tails ts) a.weight) (sym (ap (λ v. v.items) e))
-        (all-tails ws k.limit m q (seen_tracing t) all no-more a.weight h.0 (subst (λ (w : ℕ). w ≤ largest_weight) (sym h.0) h.1)))))
+        (all-tails ws k.limit m q (seen_tracing t) all no-more a.weight h.0 (subst (λ (w : ℕ). w ≤ largest_weight) (sym h.0) h.1))))
 
     module _ (few : t.found ≤ most_tails) where
-      pub free-answer : (r : Result Traced AskFault) → IfOk r (λ a. (a.weight ≡ t.weight) × (t.weight ≤ largest_weight)) → IfOk r (λ a. (t.far ≡ false) × (t.special ≡ None)) → IfOk r (λ a. IsAskFault ws b m q None)
+      pub free-answer : (r : Result Traced AskFault) → IfOk r (λ a. (a.weight ≡ t.weight) × (t.weight ≤ largest_weight)) → IfOk r (λ a. (t.far ≡ false) × (t.special ≡ None)) → IfOk r (λ a. IsAskFault ws k.limit m q None)
       free-answer r =
-          both-ok r (λ a. (a.weight ≡ t.weight) × (t.weight ≤ largest_weight)) (λ a. (t.far ≡ false) × (t.special ≡ None)) (λ a. IsAskFault ws b m q None)
-          (λ a h g. subst (λ (n : ℕ). IsAskFault ws n m q None) same (verdict-free ws k.limit m q own-free moves few-known t all no-more few g.0 h.1 g.1))
+          both-ok r (λ a. (a.weight ≡ t.weight) × (t.weight ≤ largest_weight)) (λ a. (t.far ≡ false) × (t.special ≡ None)) (λ a. IsAskFault ws k.limit m q None)
+          (λ a h g. verdict-free ws k.limit m q free moves few-known t all no-more few g.0 h.1 g.1)
 
-      pub fault-answer : (r : Result Traced AskFault) → IfErr r (IsLastFault t) → IfErr r (IsTailsFault ws b m q)
-      fault-answer r = on-err r (IsLastFault t) (IsTailsFault ws b m q) (λ f h. subst (λ (n : ℕ). IsTailsFault ws n m q f) same (verdict-fault ws k.limit m q own-free moves few-known t all no-more few f h))
+      pub fault-answer : (r : Result Traced AskFault) → IfErr r (IsLastFault t) → IfErr r (IsTailsFault ws k.limit m q)
+      fault-answer r = on-err r (IsLastFault t) (IsTailsFault ws k.limit m q) (λ f h. verdict-fault ws k.limit m q free moves few-known t all no-more few f h)

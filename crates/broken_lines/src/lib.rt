@@ -7,6 +7,8 @@
 mod asking;
 mod fault;
 mod growth;
+mod line_tracer;
+mod moving;
 mod node;
 mod reaching;
 mod tail;
@@ -15,5 +17,6 @@ mod tracer;
 pub use asking::tails;
 pub use bend_finder::Bend;
 pub use fault::AskFault;
+pub use line_tracer::LineTracer;
 pub use reaching::reach;
 pub use tail::{Tail, Traced};

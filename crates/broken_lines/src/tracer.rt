@@ -37,7 +37,8 @@ pub(crate) struct Tracing {
 
 /// The lesser of two points, where there are two.
 fn lesser(p: Option<Point>, q: Option<Point>) -> Option<Point>
-    ensures { option_map point_of result ≡ lesser_point (option_map point_of p) (option_map point_of q) }
+    ensures { option_map point_of result
+        ≡ lesser_point (option_map point_of p) (option_map point_of q) }
 {
     match (p, q) {
         (None, other) => other,
@@ -215,7 +216,7 @@ impl Tracing {
         self.end(node)
     }
 
-    /// IsFollowed all tails.
+    /// Follows all tails.
     pub(crate) fn run(
         &mut self,
         alloc: Global,
@@ -226,6 +227,7 @@ impl Tracing {
         requires limit { finder.old.limit ≡ ask.now.limit }
         requires few { self.old.found ≤ most_tails }
         requires traces { AreTraced finder.old.walls ask.now (seen_tracing self.old) }
+        ensures same { finder.new ≡ finder.old }
         ensures traces { OnOk result (AreTraced finder.old.walls ask.now (seen_tracing self.new)) }
         ensures few { OnOk result (self.new.found ≤ most_tails) }
         ensures done { OnOk result (self.new.pending.items ≡ []) }

@@ -1,0 +1,12 @@
+use Rattle.std.proofs.Common.{subst}
+use Rattle.std.specs.Prelude.{IfOk, None}
+use Rattle.scattering.specs.Theta.{IsAskFault}
+use Rattle.plane_geom.specs.Shown.{point_of}
+use Rattle.trunc_series.specs.Shown.{exp_of}
+use Rattle.bend_finder.specs.Ahead.{SeenFinder}
+use Rattle.broken_lines.proofs.line_tracer.LineTracer.tails.Goals as goal
+
+pub returns-clause-free : goal.returns-clause-free
+returns-clause-free c =
+    rw (← c.self.view_is) (subst (λ (f : SeenFinder). IfOk c.moving_tails-traced.result (λ t. IsAskFault f.walls c.self.inside.limit (exp_of c.args.m) (point_of c.args.at.now) None)) c.self.invariant.finder
+    c.moving_tails-traced.ensures.free)
