@@ -7,8 +7,8 @@ use Rattle.scattering.specs.Wall.{Wall}
 use Rattle.joint_board.specs.Seen.{ShownBoard, SeenSeat, SeenKept, new_seats, AreInOrder}
 use Rattle.joint_board.proofs.Found.{AreAllKept, all-kept, gathered, one-item, zip-images}
 use Rattle.theta_algebra.specs.declared.query.Answer.{Answer}
-use Rattle.theta_algebra.specs.Answering.{IsAnswer}
-use Rattle.ask_workers.specs.Answered.{Ask, AreAnswers, IsAnswered, AreAnsweredBy}
+use Rattle.theta_algebra.specs.Answering.{Ask, IsAnswer}
+use Rattle.ask_workers.specs.Answered.{AreAnswers, IsAnswered, AreAnsweredBy}
 
 -- ---- places
 

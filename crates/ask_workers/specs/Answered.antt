@@ -6,13 +6,8 @@ use Rattle.std.specs.Prelude.{◌≡◌, ℕ, List, All, Some, slice_get}
 use Rattle.std.specs.List.{AllZip}
 use Rattle.scattering.specs.Wall.{Wall}
 use Rattle.joint_board.specs.Seen.{SeenSeat, SeenKept}
-use Rattle.theta_algebra.specs.declared.query.Query.{Query}
 use Rattle.theta_algebra.specs.declared.query.Answer.{Answer}
-use Rattle.theta_algebra.specs.Answering.{IsAnswer}
-
--- an ask: the number of its reader, which doesn't count here, and the query
-abbrev pub Ask : Type 0
-Ask = ℕ × Query
+use Rattle.theta_algebra.specs.Answering.{Ask, IsAnswer}
 
 abbrev pub AreAnswers : List Wall → ℕ → List Ask → List Answer → Type 0
 AreAnswers ws k asks answers = AllZip (λ a x. IsAnswer ws k a.1 x) asks answers

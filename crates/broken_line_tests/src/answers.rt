@@ -33,27 +33,38 @@ fn is_theta(s: &Series) -> bool {
     s.order() == 2 && s.terms() == terms.as_slice()
 }
 
+// Whether the answer is that theta.
+pub(crate) fn has_theta(answer: &Answer) -> bool {
+    let Ok(Reply::Series(s)) = &answer.result else {
+        return false;
+    };
+    answer.order == 2 && is_theta(s)
+}
+
 // Whether that theta is answered.
 fn tells_theta(alloc: Global, least: Option<u32>) -> Result<bool, Fail> {
     let answer = told(alloc, QueryKind::Theta(exp(-1, -1)), place(2, 1)?, least)?;
-    let Ok(Reply::Series(s)) = &answer.result else {
-        return Ok(false);
-    };
-    Ok(answer.order == 2 && is_theta(s))
+    Ok(has_theta(&answer))
 }
 
-// Whether the answer to the product of the thetas of (-1, 0) and (0, -1) is that of (-1, -1) and t1·t2.
+// Whether the answer is that of the product of the thetas of (-1, 0) and (0, -1) at (2, 1): the theta of (-1, -1), and
+// t1·t2.
+pub(crate) fn has_product(answer: &Answer) -> bool {
+    let Ok(Reply::Family(family)) = &answer.result else {
+        return false;
+    };
+    let [first, second] = family.as_slice() else {
+        return false;
+    };
+    let whole = is_part(first, exp(-1, -1), 2, ONE, 1) && is_part(second, exp(0, 0), 2, T1T2, 1);
+    answer.order == 2 && whole
+}
+
+// Whether that product is answered.
 fn tells_product(alloc: Global, least: Option<u32>) -> Result<bool, Fail> {
     let kind = QueryKind::Product(exp(-1, 0), exp(0, -1));
     let answer = told(alloc, kind, place(2, 1)?, least)?;
-    let Ok(Reply::Family(family)) = &answer.result else {
-        return Ok(false);
-    };
-    let [first, second] = family.as_slice() else {
-        return Ok(false);
-    };
-    let whole = is_part(first, exp(-1, -1), 2, ONE, 1) && is_part(second, exp(0, 0), 2, T1T2, 1);
-    Ok(answer.order == 2 && whole)
+    Ok(has_product(&answer))
 }
 
 #[test]

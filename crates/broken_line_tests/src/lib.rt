@@ -12,6 +12,8 @@ mod chambers;
 #[cfg(test)]
 mod faults;
 #[cfg(test)]
+mod kept;
+#[cfg(test)]
 mod products;
 #[cfg(test)]
 mod reaching;

@@ -3,12 +3,12 @@ pub mod TracedSums
 pub mod StepLaws
 pub mod TakenTerms
 pub mod FamilyParts
-pub mod KeptMaps
 pub mod TakenThetas
 pub mod BegunProducts
 pub mod GivenWalls
 pub mod Stepping
 pub mod WholeProducts
+pub mod ProductFaults
 pub mod FamilyRuns
 pub mod OneFamily
 pub mod OneAnswer

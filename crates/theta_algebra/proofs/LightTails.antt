@@ -147,7 +147,7 @@ left-is ws b x c cs h =
     let k = taken-small ws b x c cs h in
     same-exp _ _ (less-is x.a c.key.exp.a s.0 k.0) (less-is x.b c.key.exp.b s.1 k.1)
 
--- what follows, as the program asks it of the finder later
+-- what follows, as the program asks it of the tracer later
 pub later-bends : (f g : SeenFinder) (x : Exp) (c : Bend) (cs : List Bend) → g ≡ f → AreLightBends f.walls f.limit x (c ∷ cs) → AreLightBends g.walls g.limit (left32 x c.key.exp) cs
 later-bends f g x c cs e h =
     subst (λ (k : SeenFinder). AreLightBends k.walls k.limit (left32 x c.key.exp) cs) (sym e)

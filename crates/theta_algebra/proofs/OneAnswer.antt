@@ -28,9 +28,9 @@ use Rattle.theta_algebra.specs.declared.query.Reply.{Reply}
 use Rattle.theta_algebra.specs.declared.query.Reply.TheVariants.{Series, Family}
 use Rattle.theta_algebra.specs.declared.query.Answer.{Answer}
 use Rattle.theta_algebra.specs.Families.{family_of}
-use Rattle.theta_algebra.specs.Answers.{SeenReply, OneSeries, ManySeries}
+use Rattle.theta_algebra.specs.Answers.{OneSeries, ManySeries}
 use Rattle.theta_algebra.specs.Answering.{is_early, IsThetaResult, IsProductResult, IsResult, IsAnswer, IsToldResult, IsToldAnswer}
-use Rattle.theta_algebra.specs.Laws.{PlainFault, Found, plain_fault, plain_result, plain_answer, AnswerIsOne}
+use Rattle.theta_algebra.specs.Laws.{Found, plain_fault, plain_result, plain_answer, AnswerIsOne}
 use Rattle.theta_algebra.proofs.OneFamily.{parts-one}
 
 -- ---- faults

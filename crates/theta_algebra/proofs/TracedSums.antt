@@ -1,5 +1,5 @@
 -- The sum of the values of the lines of complete tails, tail by tail, and the theta that it is.
-use Rattle.std.proofs.Common.{◌≡◌, ℕ, refl, sym, ap, subst, ◌∙◌, ◌+◌, ◌<◌, ◌≤◌, ◌^◌, ◌⊎◌, inl, inr, arith, Bool, true, false, List, [], ◌∷◌, ◌++◌, map, take, length, get_or, zero, suc, min, to_z, of_z, int_eq as test_eq}
+use Rattle.std.proofs.Common.{◌≡◌, ℕ, refl, sym, ap, subst, ◌∙◌, ◌+◌, ◌<◌, ◌≤◌, ◌^◌, ◌⊎◌, inl, inr, arith, Bool, true, false, List, [], ◌∷◌, ◌++◌, map, take, length, get_or, zero, suc, to_z, of_z, int_eq as test_eq}
 use Rattle.std.specs.Prelude.{ℤ, ◌+ℤ◌, nat_abs, None, not, ◌&&◌}
 use Rattle.std.proofs.lemmas.Int.{ints}
 use Rattle.std.proofs.lemmas.Bool.Decides.{Decides-int_eq}
@@ -27,7 +27,7 @@ use Rattle.broken_line_theory.proofs.ThetaOfTails.{theta-of-tails}
 use Rattle.broken_line_theory.proofs.ThetaSums.{line-value, values-low, values-small}
 use Rattle.broken_line_theory.proofs.TracedThetas.{theta-same}
 use Rattle.scatter_diagram.specs.Proper.{AreTameWalls}
-use Rattle.bend_finder.specs.Ahead.{SeenFinder, finder}
+use Rattle.bend_finder.specs.Ahead.{SeenFinder}
 use Rattle.broken_lines.specs.declared.tail.Tail.{Tail as CodeTail}
 use Rattle.broken_lines.specs.declared.tail.Traced.{Traced}
 use Rattle.broken_lines.specs.Traced.{SeenTail, seen_tail, seen_tails, plain, plain_tails, IsTold, AreAllTails, AreTails}
@@ -147,7 +147,7 @@ module _ (ws : List Wall) (b k : ℕ) (m : Exp) (q : Point) (walls : Every (IsWa
       below : {i j w l : ℕ} → i ≤ j → j ≡ w → w ≤ l → i ≤ l
       below p e g = omega (arith, p, e, g)
 
--- the sum with the tail at a place, for the finder that was asked before
+-- the sum with the tail at a place, for the tracer that was asked before
 pub sum-step : (f g : SeenFinder) (m : Exp) (ts : List CodeTail) (i : ℕ) (t : CodeTail) (old new : Sum) → g ≡ f → AreLightTails f.walls f.limit m ts → i < length ts → t ≡ get_or ts i t
     → StandsFor Wrapping old (traced_sum f.walls f.limit m (take i ts)) → StandsFor Wrapping new (line_sum g.walls g.limit m (plain (seen_tail t) ∷ []) ++ old)
     → StandsFor Wrapping new (traced_sum f.walls f.limit m (take (i + 1) ts))
@@ -183,19 +183,13 @@ moving-tails ws b m q t e h = rw e at h
 
 -- ---- as the program makes it
 
-pub same-limit : (b limit order o : ℕ) → b ≡ min limit order → order ≡ o → limit ≤ o → b ≡ limit
-same-limit b limit order o e f l = omega (arith, e, f, l)
+pub all-light : (ws : List Wall) (b k : ℕ) (m : Exp) (ts : List CodeTail) → b ≤ highest_order → AreTameWalls ws → Every (IsWall k) ws → IsAsked m → AreFound ws b m ts → AreLightTails ws b m ts
+all-light ws b k m ts low tame walls asked h = light-tails ws b k m low tame walls asked h.0 ts h.1 h.2
 
-pub all-light : (ws : List Wall) (f : SeenFinder) (b o k : ℕ) (m : Exp) (ts : List CodeTail) → f ≡ finder ws b → b ≤ o → o ≤ highest_order → AreTameWalls ws → Every (IsWall k) ws → IsAsked m → AreFound ws b m ts
-    → AreLightTails f.walls f.limit m ts
-all-light ws f b o k m ts e l low tame walls asked h =
-    subst (λ (g : SeenFinder). AreLightTails g.walls g.limit m ts) (sym e) (light-tails ws b k m (omega (arith, l, low)) tame walls asked h.0 ts h.1 h.2)
-
-pub made-sum : (ws : List Wall) (f : SeenFinder) (b o k : ℕ) (m : Exp) (ts : List CodeTail) (sum r : Sum) → f ≡ finder ws b → b ≤ o → o ≤ highest_order → Every (IsWall k) ws → AreFound ws b m ts
-    → StandsFor Wrapping sum (traced_sum f.walls f.limit m ts) → IsSortedFor Wrapping r sum → IsValid b r × Same r (traced_sum ws b m ts)
-made-sum ws f b o k m ts sum r e l low walls h s sorted =
-    exact-sum b (traced_sum ws b m ts) sum r (omega (arith, l, low)) (sum-low ws b k m h.0 walls ts h.2.lists.each) (sum-small ws b k m h.0 walls ts h.1 h.2)
-    (subst (λ (g : SeenFinder). StandsFor Wrapping sum (traced_sum g.walls g.limit m ts)) e s) sorted
+pub made-sum : (ws : List Wall) (b k : ℕ) (m : Exp) (ts : List CodeTail) (sum r : Sum) → b ≤ highest_order → Every (IsWall k) ws → AreFound ws b m ts
+    → StandsFor Wrapping sum (traced_sum ws b m ts) → IsSortedFor Wrapping r sum → IsValid b r × Same r (traced_sum ws b m ts)
+made-sum ws b k m ts sum r low walls h s sorted =
+    exact-sum b (traced_sum ws b m ts) sum r low (sum-low ws b k m h.0 walls ts h.2.lists.each) (sum-small ws b k m h.0 walls ts h.1 h.2) s sorted
 
 pub series-of : (s : Seen) (n b : ℕ) (r g : Sum) → s.order ≡ n → n ≡ b → s.terms ≡ r → IsValid b r × Same r g → IsSeriesOf s b g
 series-of s n b r g o e t h = record {

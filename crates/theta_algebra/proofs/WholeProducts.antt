@@ -18,6 +18,9 @@ use Rattle.theta_algebra.specs.declared.steps.Steps.{Steps}
 pub most-below : (n c most m : ℕ) → m ≡ min n most → c < most → m ≤ c → n ≡ m
 most-below n c most m e l h = grind arith
 
+pub most-above : (n c most m : ℕ) → m ≡ min n most → c < m → c < n
+most-above n c most m e l = omega (arith, e, l)
+
 -- ---- after all steps
 
 module _ (ws : List Wall) (k : ℕ) (l r : Exp) (q : Point) (begun steps : Steps) (h : IsBegunProduct ws k l r q begun) (reached : IsAtStage ws k q h.s (h.x * h.y) (k + 1) steps) (j : ℕ) (walls : Every (IsWall j) ws) (point : IsPoint q) where

@@ -1,4 +1,5 @@
 -- The answer to a query in a diagram, by its walls ws and its order k.
+--     Ask                   a query with the number of its reader
 --     IsQuery q             the exponents of q are those of an input
 --     IsAnswer ws k q a     a answers q: its order is k, and k is too early for q, or a has the series, the family, or the
 --                           first fault
@@ -23,6 +24,9 @@ use Rattle.theta_algebra.specs.declared.query.Reply.TheVariants.{Series, Family}
 use Rattle.theta_algebra.specs.declared.query.Answer.{Answer}
 use Rattle.theta_algebra.specs.Thetas.{IsThetaOf}
 use Rattle.theta_algebra.specs.Families.{IsFactorExp, IsFamilyOf}
+
+abbrev pub Ask : Type 0
+Ask = ℕ × Query
 
 abbrev pub IsKind : QueryKind → Type 0
 IsKind (Theta m) = IsFactorExp m

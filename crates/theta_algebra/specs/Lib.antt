@@ -1,5 +1,6 @@
 pub mod LineValues
 pub mod Thetas
+pub mod Tracers
 pub mod Answers
 pub mod Families
 pub mod Stages

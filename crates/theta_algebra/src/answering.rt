@@ -5,9 +5,9 @@ ghost use Rattle.scattering.specs.Wall.{walls};
 ghost use Rattle.plane_geom.specs.Shown.{point_of};
 ghost use Rattle.theta_algebra.specs.Answering.{IsKind, IsQuery, is_early, IsResult, IsAnswer};
 
-use crate::product::theta_product;
+use crate::product::product_of;
 use crate::query::{Answer, Query, QueryKind, Reply};
-use crate::thetas::theta;
+use crate::tracers::Tracers;
 use broken_lines::AskFault;
 use plane_geom::Point;
 use scatter_diagram::Diagram;
@@ -24,17 +24,44 @@ fn is_early(order: u32, least: Option<u32>) -> bool
 }
 
 /// What is asked for at a point, in the diagram's order.
-fn reply(alloc: Global, e: &Diagram, kind: &QueryKind, at: &Point) -> Result<Reply, AskFault>
+fn reply(
+    tracers: &mut Tracers<'_>,
+    alloc: Global,
+    kind: &QueryKind,
+    at: &Point,
+) -> Result<Reply, AskFault>
     requires { IsKind kind.now }
-    ensures { IsResult (walls e.now.diagram) e.now.order kind.now (point_of at.now) result }
+    ensures same { tracers.new ≡ tracers.old }
+    ensures result { IsResult (walls tracers.old.diagram) tracers.old.order kind.now
+        (point_of at.now) result }
 {
-    let order = e.order();
+    let order = tracers.order();
     match *kind {
-        QueryKind::Theta(m) => Ok(Reply::Series(theta(alloc, e, m, at, order)?)),
+        QueryKind::Theta(m) => {
+            let weighed = tracers.weighed(alloc, m, at, order)?;
+            Ok(Reply::Series(weighed.0))
+        }
         QueryKind::Product(p, q) => {
-            let family = theta_product(alloc, e, p, q, at, order)?;
+            let family = product_of(tracers, alloc, p, q, at, order)?;
             Ok(Reply::Family(family))
         }
+    }
+}
+
+impl<'e> Tracers<'e> {
+    /// The answer to a query in the diagram, as `answer` tells it.
+    pub fn answer(&mut self, alloc: Global, query: &Query) -> Answer
+        requires { IsQuery query.now }
+        ensures same { self.new ≡ self.old }
+        ensures answer { IsAnswer (walls self.old.diagram) self.old.order query.now result }
+    {
+        let order = self.order();
+        let result = if is_early(order, query.least) {
+            Err(AskFault::NotYet { newest: order })
+        } else {
+            reply(self, alloc, &query.kind, &query.at)
+        };
+        Answer { order, result }
     }
 }
 
@@ -44,11 +71,6 @@ pub fn answer(alloc: Global, e: &Diagram, query: &Query) -> Answer
     requires { IsQuery query.now }
     ensures { IsAnswer (walls e.now.diagram) e.now.order query.now result }
 {
-    let order = e.order();
-    let result = if is_early(order, query.least) {
-        Err(AskFault::NotYet { newest: order })
-    } else {
-        reply(alloc, e, &query.kind, &query.at)
-    };
-    Answer { order, result }
+    let mut tracers = Tracers::new(alloc, e);
+    tracers.answer(alloc, query)
 }

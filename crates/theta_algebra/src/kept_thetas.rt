@@ -1,6 +1,6 @@
 // Thetas that are kept for later terms of a product.
 
-ghost use Rattle.std.specs.Prelude.{◌≤◌, IfOk, IfErr, OnOk, List, None};
+ghost use Rattle.std.specs.Prelude.{◌≡◌, ◌≤◌, IfOk, IfErr, OnOk, List, None};
 ghost use Rattle.scattering.specs.Plane.{Point as PlanePoint};
 ghost use Rattle.scattering.specs.Wall.{Wall, walls};
 ghost use Rattle.scattering.specs.Theta.{IsAskFault};
@@ -11,10 +11,9 @@ ghost use Rattle.broken_lines.specs.Traced.{IsAskable, IsTailsFault};
 ghost use Rattle.theta_algebra.specs.Thetas.{IsThetaOf};
 ghost use Rattle.theta_algebra.specs.KeptThetas.{AreKeptThetas, Keeps};
 
-use crate::thetas::weighed_theta;
+use crate::tracers::Tracers;
 use broken_lines::AskFault;
 use plane_geom::Point;
-use scatter_diagram::Diagram;
 use std::alloc::{AllocError, Global};
 use std::collections::BTreeMap;
 use trunc_series::{Exp, Series};
@@ -62,30 +61,31 @@ impl KeptThetas {
     pub(crate) fn weighed(
         &mut self,
         alloc: Global,
-        e: &Diagram,
+        tracers: &mut Tracers<'_>,
         m: Exp,
         at: &Point,
         limit: u32,
     ) -> Result<(Series, u128), AskFault>
-        requires limit { limit ≤ e.now.order }
+        requires limit { limit ≤ tracers.old.order }
         requires asked { IsAskable m }
-        requires kept { AreKeptThetas (walls e.now.diagram) (point_of at.now) self.old }
+        requires kept { AreKeptThetas (walls tracers.old.diagram) (point_of at.now) self.old }
+        ensures same { tracers.new ≡ tracers.old }
         ensures theta { IfOk result
-            (λ r. IsThetaOf (walls e.now.diagram) limit (exp_of m) (point_of at.now) r.0) }
-        ensures weight { IfOk result
-            (λ r. IsThetaWeight (walls e.now.diagram) limit (exp_of m) (point_of at.now) r.1) }
+            (λ r. IsThetaOf (walls tracers.old.diagram) limit (exp_of m) (point_of at.now) r.0) }
+        ensures weight { IfOk result (λ r. IsThetaWeight (walls tracers.old.diagram) limit
+            (exp_of m) (point_of at.now) r.1) }
         ensures free { IfOk result
-            (λ r. IsAskFault (walls e.now.diagram) limit (exp_of m) (point_of at.now) None) }
+            (λ r. IsAskFault (walls tracers.old.diagram) limit (exp_of m) (point_of at.now) None) }
         ensures fault { IfErr result
-            (IsTailsFault (walls e.now.diagram) limit (exp_of m) (point_of at.now)) }
-        ensures kept { AreKeptThetas (walls e.now.diagram) (point_of at.now) self.new }
+            (IsTailsFault (walls tracers.old.diagram) limit (exp_of m) (point_of at.now)) }
+        ensures kept { AreKeptThetas (walls tracers.old.diagram) (point_of at.now) self.new }
     {
         if let Some(kept) = self.thetas.get(&m) {
             if kept.limit == limit {
                 return Ok((kept.theta.copy()?, kept.weight));
             }
         }
-        let weighed = weighed_theta(alloc, e, m, at, limit)?;
+        let weighed = tracers.weighed(alloc, m, at, limit)?;
         self.keep(m, limit, &weighed)?;
         Ok(weighed)
     }

@@ -13,9 +13,11 @@ mod product;
 mod query;
 mod steps;
 mod thetas;
+mod tracers;
 
 pub use answering::answer;
 pub use laws::one_answer;
 pub use product::theta_product;
 pub use query::{Answer, Query, QueryKind, Reply};
 pub use thetas::theta;
+pub use tracers::Tracers;

@@ -14,10 +14,10 @@ ghost use Rattle.theta_algebra.specs.Steps.{IsKnownDiagram, IsBegun, IsLeastDegr
 ghost use Rattle.theta_algebra.specs.KeptThetas.{AreKeptThetas};
 
 use crate::kept_thetas::KeptThetas;
+use crate::tracers::Tracers;
 use broken_lines::AskFault;
 use limits::LARGEST_WEIGHT;
 use plane_geom::Point;
-use scatter_diagram::Diagram;
 use std::alloc::{AllocError, Global};
 use trunc_series::sorted_terms::{Arithmetic, level, merged, multiplied};
 use trunc_series::{Exp, Key};
@@ -89,24 +89,26 @@ fn less(
 fn take(
     thetas: &mut KeptThetas,
     alloc: Global,
-    e: &Diagram,
+    tracers: &mut Tracers<'_>,
     at: &Point,
     limit: u32,
     before: Steps,
     t: &(Key, i128),
 ) -> Result<Steps, AskFault>
-    requires given { IsKnownDiagram e.now limit }
+    requires given { IsKnownDiagram tracers.old limit }
     requires term { CanBeTaken limit (sum_of before.family.items) t.now }
-    requires kept { AreKeptThetas (walls e.now.diagram) (point_of at.now) thetas.old }
-    ensures taken { IfOk result (IsTermTaken (walls e.now.diagram) limit (point_of at.now)
+    requires kept { AreKeptThetas (walls tracers.old.diagram) (point_of at.now) thetas.old }
+    ensures same { tracers.new ≡ tracers.old }
+    ensures taken { IfOk result (IsTermTaken (walls tracers.old.diagram) limit (point_of at.now)
         t.now before) }
     ensures fault { IfErr result (λ f. (i : ℕ) →
         IsBegun limit (sum_of before.family.items) t.now i →
-        IsTailsFault (walls e.now.diagram) (limit - i) (exp_of t.now.0.exp) (point_of at.now) f) }
-    ensures kept { AreKeptThetas (walls e.now.diagram) (point_of at.now) thetas.new }
+        IsTailsFault (walls tracers.old.diagram) (limit - i) (exp_of t.now.0.exp)
+        (point_of at.now) f) }
+    ensures kept { AreKeptThetas (walls tracers.old.diagram) (point_of at.now) thetas.new }
 {
     let begun = begun_at(before.family.as_slice(), t.0.exp, limit);
-    let theta = thetas.weighed(alloc, e, t.0.exp, at, limit - begun)?;
+    let theta = thetas.weighed(alloc, tracers, t.0.exp, at, limit - begun)?;
     let weight = grown(before.weight, t.1, theta.1);
     let left = less(alloc, limit, before.left.as_slice(), t, theta.0.terms())?;
     Ok(Steps {
@@ -120,23 +122,24 @@ fn take(
 pub(crate) fn step(
     thetas: &mut KeptThetas,
     alloc: Global,
-    e: &Diagram,
+    tracers: &mut Tracers<'_>,
     at: &Point,
     limit: u32,
     d: u32,
     before: Steps,
 ) -> Result<Steps, AskFault>
-    requires given { IsKnownDiagram e.now limit }
+    requires given { IsKnownDiagram tracers.old limit }
     requires degree { d ≤ limit }
-    requires before { IsAtSomeStage (walls e.now.diagram) limit (point_of at.now) d before }
-    requires kept { AreKeptThetas (walls e.now.diagram) (point_of at.now) thetas.old }
+    requires before { IsAtSomeStage (walls tracers.old.diagram) limit (point_of at.now) d before }
+    requires kept { AreKeptThetas (walls tracers.old.diagram) (point_of at.now) thetas.old }
+    ensures same { tracers.new ≡ tracers.old }
     ensures after { IfOk result (λ after. (s : Sum) (first : ℕ) →
-        IsAtStage (walls e.now.diagram) limit (point_of at.now) s first d before →
-        IsAtStage (walls e.now.diagram) limit (point_of at.now) s first (d + 1) after) }
+        IsAtStage (walls tracers.old.diagram) limit (point_of at.now) s first d before →
+        IsAtStage (walls tracers.old.diagram) limit (point_of at.now) s first (d + 1) after) }
     ensures fault { IfErr result (λ f. (s : Sum) (first : ℕ) →
-        IsAtStage (walls e.now.diagram) limit (point_of at.now) s first d before →
-        IsFaultBy (StepsFault (walls e.now.diagram) limit (point_of at.now) s first) f) }
-    ensures kept { AreKeptThetas (walls e.now.diagram) (point_of at.now) thetas.new }
+        IsAtStage (walls tracers.old.diagram) limit (point_of at.now) s first d before →
+        IsFaultBy (StepsFault (walls tracers.old.diagram) limit (point_of at.now) s first) f) }
+    ensures kept { AreKeptThetas (walls tracers.old.diagram) (point_of at.now) thetas.new }
 {
     let new = level(alloc, d, before.left.as_slice())?;
     let family = merged(
@@ -151,7 +154,7 @@ pub(crate) fn step(
         weight: before.weight,
     };
     for t in new.as_slice() {
-        steps = take(thetas, alloc, e, at, limit, steps, t)?;
+        steps = take(thetas, alloc, tracers, at, limit, steps, t)?;
     }
     if steps.weight > LARGEST_WEIGHT {
         return Err(AskFault::WeightTooLarge);

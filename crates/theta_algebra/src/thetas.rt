@@ -1,6 +1,6 @@
 // Theta functions.
 
-ghost use Rattle.std.specs.Prelude.{◌≤◌, IfOk, IfErr, None};
+ghost use Rattle.std.specs.Prelude.{◌≡◌, ◌≤◌, IfOk, IfErr, None};
 ghost use Rattle.scattering.specs.Wall.{walls};
 ghost use Rattle.scattering.specs.Theta.{IsAskFault};
 ghost use Rattle.scattering.specs.ThetaProduct.{IsThetaWeight};
@@ -11,8 +11,7 @@ ghost use Rattle.theta_algebra.specs.LineValues.{traced_sum, AreFound};
 ghost use Rattle.theta_algebra.specs.Thetas.{IsThetaOf};
 
 use crate::line_values::sum_of_values;
-use bend_finder::BendFinder;
-use broken_lines::{AskFault, Tail, tails};
+use broken_lines::{AskFault, LineTracer, Tail};
 use plane_geom::Point;
 use scatter_diagram::Diagram;
 use std::alloc::{AllocError, Global};
@@ -22,52 +21,48 @@ use trunc_series::{Exp, Series};
 /// The sum of the values of the lines of the complete ones among all tails for m at a point.
 fn sum_of_lines(
     alloc: Global,
-    e: &Diagram,
+    tracer: &mut LineTracer<'_>,
     m: Exp,
-    limit: u32,
     tails: &[Tail],
 ) -> Result<Series, AllocError>
-    requires limit { limit ≤ e.now.order }
     requires asked { IsAskable m }
-    requires tails { AreFound (walls e.now.diagram) limit (exp_of m) tails.now }
-    ensures { IfOk result (λ s. IsSeriesOf s limit
-        (traced_sum (walls e.now.diagram) limit (exp_of m) tails.now)) }
+    requires tails { AreFound tracer.old.walls tracer.old.limit (exp_of m) tails.now }
+    ensures same { tracer.new ≡ tracer.old }
+    ensures sum { IfOk result (λ s. IsSeriesOf s tracer.old.limit
+        (traced_sum tracer.old.walls tracer.old.limit (exp_of m) tails.now)) }
 {
-    // the diagram's order is asked for what its type says of its walls
-    let order = e.order();
-    let mut finder = BendFinder::new(alloc, e, limit)?;
-    let sum = sum_of_values(alloc, &mut finder, m, tails)?;
+    let limit = tracer.limit();
+    let sum = sum_of_values(alloc, tracer, m, tails)?;
     let terms = sum.sorted(alloc, Arithmetic::Wrapping)?;
-    Ok(Series::from_sorted(alloc, limit.min(order), terms))
+    Ok(Series::from_sorted(alloc, limit, terms))
 }
 
-/// The theta function of m at a point, and the sum of the weights of all tails; for m = (0, 0) the weight is 1.
+/// The theta function of m at a point, to the degree to which the walls are cut, and the sum of the weights of all
+/// tails; for m = (0, 0) the weight is 1.
 pub(crate) fn weighed_theta(
     alloc: Global,
-    e: &Diagram,
+    tracer: &mut LineTracer<'_>,
     m: Exp,
     at: &Point,
-    limit: u32,
 ) -> Result<(Series, u128), AskFault>
-    requires limit { limit ≤ e.now.order }
-    requires asked { IsAskable m }
+    requires { IsAskable m }
+    ensures same { tracer.new ≡ tracer.old }
     ensures theta { IfOk result
-        (λ r. IsThetaOf (walls e.now.diagram) limit (exp_of m) (point_of at.now) r.0) }
+        (λ r. IsThetaOf tracer.old.walls tracer.old.limit (exp_of m) (point_of at.now) r.0) }
     ensures weight { IfOk result
-        (λ r. IsThetaWeight (walls e.now.diagram) limit (exp_of m) (point_of at.now) r.1) }
+        (λ r. IsThetaWeight tracer.old.walls tracer.old.limit (exp_of m) (point_of at.now) r.1) }
     ensures free { IfOk result
-        (λ r. IsAskFault (walls e.now.diagram) limit (exp_of m) (point_of at.now) None) }
+        (λ r. IsAskFault tracer.old.walls tracer.old.limit (exp_of m) (point_of at.now) None) }
     ensures fault { IfErr result
-        (IsTailsFault (walls e.now.diagram) limit (exp_of m) (point_of at.now)) }
+        (IsTailsFault tracer.old.walls tracer.old.limit (exp_of m) (point_of at.now)) }
 {
-    // the diagram's order is asked for what its type says of its walls
-    let order = e.order();
-    let traced = tails(alloc, e, m, at, limit)?;
+    let limit = tracer.limit();
+    let traced = tracer.tails(alloc, m, at)?;
     if m.a == 0 && m.b == 0 {
-        let one = Series::one(alloc, limit.min(order))?;
+        let one = Series::one(alloc, limit)?;
         return Ok((one, traced.weight));
     }
-    let theta = sum_of_lines(alloc, e, m, limit, traced.tails.as_slice())?;
+    let theta = sum_of_lines(alloc, tracer, m, traced.tails.as_slice())?;
     Ok((theta, traced.weight))
 }
 
@@ -85,6 +80,7 @@ pub fn theta(alloc: Global, e: &Diagram, m: Exp, at: &Point, limit: u32) -> Resu
     ensures fault { IfErr result
         (IsTailsFault (walls e.now.diagram) limit (exp_of m) (point_of at.now)) }
 {
-    let weighed = weighed_theta(alloc, e, m, at, limit)?;
+    let mut tracer = LineTracer::new(alloc, e, limit)?;
+    let weighed = weighed_theta(alloc, &mut tracer, m, at)?;
     Ok(weighed.0)
 }

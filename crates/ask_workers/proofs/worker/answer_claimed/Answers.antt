@@ -11,7 +11,7 @@ pub loop-alloc-preserved-in-Continue-1 : goal.loop-alloc-preserved-in-Continue-1
 loop-alloc-preserved-in-Continue-1 c =
     let d = c.in-Some.ensures.drawn in
     let i = c.loop-alloc.invariant in
-    let r : ℕ × Answer = (c.in-Some.task, c.answer-found.result) in
+    let r : ℕ × Answer = (c.in-Some.task, c.answer_by-found.result) in
     let P = IsAnswered (walls c.args.e.now.diagram) c.args.e.now.order c.args.asks.now in record {
       board = ap (λ s. s.board) d.1.seat ∙ i.board;
       number = ap (λ s. s.number) d.1.seat ∙ i.number;
@@ -19,8 +19,9 @@ loop-alloc-preserved-in-Continue-1 c =
       results = rw c.in_ok-push.ensures.items (All-push P c.loop-alloc.answers.items r i.results (record {
         ask = c.index-asks-task.result;
         task = slice_get_read c.args.asks.now c.args.board.now.tasks c.in-Some.task c.index-asks-task.result c.requires.board d.0 c.index-asks-task.is;
-        answer = c.answer-found.ensures;
+        answer = c.answer_by-found.ensures.answer;
       }));
+      tracers = c.answer_by-found.ensures.tracers;
     }
 
 pub loop-alloc-preserved : goal.loop-alloc-preserved
@@ -31,6 +32,7 @@ loop-alloc-preserved c =
       number = ap (λ s. s.number) d.2.seat ∙ i.number;
       numbers = drawn_none c.loop-alloc.seat c.claim.new.seat d.0 c.loop-alloc.answers.items d.2 (rw i.board d.1) i.numbers;
       results = i.results;
+      tracers = i.tracers;
     }
 
 pub returns : goal.returns

@@ -10,6 +10,7 @@ invariant-loop-alloc l = record {
   board : l.seat.board ≡ l.board;
   number : l.seat.number ≡ l.fn.place.seat.number;
   numbers : numbers_of l.answers.items ≡ tasks_drawn l.seat;
+  tracers : l.tracers ≡ l.e;
   results : All (IsAnswered (walls l.e.diagram) l.e.order l.asks) l.answers.items;
 }
 

@@ -9,23 +9,23 @@ use Rattle.theta_algebra.proofs.LightTails.{later, later-length, later-bends, pa
 use Rattle.theta_algebra.proofs.line_values.+value_of_bends.Goals as goal
 
 pub value-requires-clause-small : goal.value-requires-clause-small
-value-requires-clause-small t c = bends-small c.args.finder.now.walls c.args.finder.now.limit (exp_of c.args.x) (tail_bends c.args.bends.now) c.requires.bends
+value-requires-clause-small t c = bends-small c.args.tracer.now.walls c.args.tracer.now.limit (exp_of c.args.x) (tail_bends c.args.bends.now) c.requires.bends
 
 pub value-requires-clause-degree : goal.value-requires-clause-degree
 value-requires-clause-degree t c =
-    let f = c.args.finder.now in
+    let f = c.args.tracer.now in
     let h = first-bend f.walls f.limit (exp_of c.args.x) c.args.bends.now c.bend-item.result c.in-len1-up.len_at_least c.bend-item.is c.requires.bends in
     next-low f.walls f.limit (exp_of c.args.x) (bend_of c.bend-item.result) (tail_bends (later c.args.bends.now)) h
 
 pub value-requires-clause-light : goal.value-requires-clause-light
 value-requires-clause-light t c =
-    let f = c.args.finder.now in
+    let f = c.args.tracer.now in
     let h = first-bend f.walls f.limit (exp_of c.args.x) c.args.bends.now c.bend-item.result c.in-len1-up.len_at_least c.bend-item.is c.requires.bends in
     next-light f.walls f.limit (exp_of c.args.x) (bend_of c.bend-item.result) (tail_bends (later c.args.bends.now)) h
 
 pub overflow_sub-left : goal.overflow_sub-left
 overflow_sub-left t c =
-    let f = c.args.finder.now in
+    let f = c.args.tracer.now in
     let h = first-bend f.walls f.limit (exp_of c.args.x) c.args.bends.now c.bend-item.result c.in-len1-up.len_at_least c.bend-item.is c.requires.bends in
     let s = (bends-small f.walls f.limit (exp_of c.args.x) (tail_bends c.args.bends.now) c.requires.bends).0 in
     let k = (taken-small f.walls f.limit (exp_of c.args.x) (bend_of c.bend-item.result) (tail_bends (later c.args.bends.now)) h).0 in
@@ -33,7 +33,7 @@ overflow_sub-left t c =
 
 pub overflow_sub-left-2 : goal.overflow_sub-left-2
 overflow_sub-left-2 t c =
-    let f = c.args.finder.now in
+    let f = c.args.tracer.now in
     let h = first-bend f.walls f.limit (exp_of c.args.x) c.args.bends.now c.bend-item.result c.in-len1-up.len_at_least c.bend-item.is c.requires.bends in
     let s = (bends-small f.walls f.limit (exp_of c.args.x) (tail_bends c.args.bends.now) c.requires.bends).1 in
     let k = (taken-small f.walls f.limit (exp_of c.args.x) (bend_of c.bend-item.result) (tail_bends (later c.args.bends.now)) h).1 in
@@ -41,14 +41,14 @@ overflow_sub-left-2 t c =
 
 pub value_of_bends-requires : goal.value_of_bends-requires
 value_of_bends-requires t c =
-    let f = c.args.finder.now in
+    let f = c.args.tracer.now in
     let h = first-bend f.walls f.limit (exp_of c.args.x) c.args.bends.now c.bend-item.result c.in-len1-up.len_at_least c.bend-item.is c.requires.bends in
     let l = later-length c.args.bends.now c.in-len1-up.len_at_least in
     (omega (arith, l), later-bends f c.value.new.self (exp_of c.args.x) (bend_of c.bend-item.result) (tail_bends (later c.args.bends.now)) c.value.ensures.same h)
 
 pub times-requires-clause-degrees : goal.times-requires-clause-degrees
 times-requires-clause-degrees t c =
-    let f = c.args.finder.now in
+    let f = c.args.tracer.now in
     let b = bend_of c.bend-item.result in
     let cs = tail_bends (later c.args.bends.now) in
     let h = first-bend f.walls f.limit (exp_of c.args.x) c.args.bends.now c.bend-item.result c.in-len1-up.len_at_least c.bend-item.is c.requires.bends in
@@ -60,7 +60,7 @@ times-requires-clause-degrees t c =
 
 pub overflow_mul-result : goal.overflow_mul-result
 overflow_mul-result t c =
-    let f = c.args.finder.now in
+    let f = c.args.tracer.now in
     let b = bend_of c.bend-item.result in
     let cs = tail_bends (later c.args.bends.now) in
     let h = first-bend f.walls f.limit (exp_of c.args.x) c.args.bends.now c.bend-item.result c.in-len1-up.len_at_least c.bend-item.is c.requires.bends in
@@ -69,7 +69,7 @@ overflow_mul-result t c =
 
 pub returns-clause-value : goal.returns-clause-value
 returns-clause-value t c =
-    let f = c.args.finder.now in
+    let f = c.args.tracer.now in
     let b = bend_of c.bend-item.result in
     let cs = tail_bends (later c.args.bends.now) in
     let h = first-bend f.walls f.limit (exp_of c.args.x) c.args.bends.now c.bend-item.result c.in-len1-up.len_at_least c.bend-item.is c.requires.bends in

@@ -11,14 +11,14 @@ use Rattle.theta_algebra.proofs.line_values.add_value.Goals as goal
 
 pub returns-then-ne-clause-added : goal.returns-then-ne-clause-added
 returns-then-ne-clause-added c =
-    let f = c.args.finder.now in
+    let f = c.args.tracer.now in
     let t = seen_tail c.args.tail.now in
     let e = is-incomplete t (exp_of c.args.m) c.requires.tail.told (sym c.ne.ensures ∙ c.if-ne.true) in
     subst (λ (g : Sum). StandsFor Wrapping c.args.sum.now (g ++ c.args.sum.now)) (sym (sum-none f.walls f.limit (exp_of c.args.m) (plain t) e)) (stands-itself Wrapping c.args.sum.now c.requires.terms)
 
 pub returns-clause-added : goal.returns-clause-added
 returns-clause-added c =
-    let f = c.args.finder.now in
+    let f = c.args.tracer.now in
     let t = seen_tail c.args.tail.now in
     let e = is-whole t (exp_of c.args.m) c.requires.tail.told (sym c.ne.ensures ∙ c.if-ne.false) in
     subst (λ (g : Sum). OnOk c.add.result (StandsFor Wrapping c.add.new.self g))

@@ -8,6 +8,6 @@ loop-tail-preserved c =
     let same = c.loop-tail.invariant.same in
     record {
       same = c.in_ok-add_value.ensures.same ∙ same;
-      stands = sum-step c.args.finder.now c.loop-tail.finder (exp_of c.args.m) c.args.tails.now c.loop-tail.tail-index c.tail-item.result c.loop-tail.sum c.add_value.new.sum same c.requires.tails c.loop-tail-test.true c.tail-item.is
+      stands = sum-step c.args.tracer.now c.loop-tail.tracer (exp_of c.args.m) c.args.tails.now c.loop-tail.tail-index c.tail-item.result c.loop-tail.sum c.add_value.new.sum same c.requires.tails c.loop-tail-test.true c.tail-item.is
           c.loop-tail.invariant.stands c.in_ok-add_value.ensures.added;
     }

@@ -7,6 +7,6 @@ use Rattle.theta_algebra.proofs.line_values.sum_of_values.Given as goal
 
 abbrev pub invariant-loop-tail : goal.invariant-loop-tail
 invariant-loop-tail l = record {
-  same : l.finder ≡ l.initial.finder;
-  stands : StandsFor Wrapping l.sum (traced_sum l.initial.finder.walls l.initial.finder.limit (exp_of l.m) (take l.tail-index l.tails));
+  same : l.tracer ≡ l.initial.tracer;
+  stands : StandsFor Wrapping l.sum (traced_sum l.initial.tracer.walls l.initial.tracer.limit (exp_of l.m) (take l.tail-index l.tails));
 }

@@ -23,7 +23,7 @@ first k ts us t d i e can h begins = subst (λ (vs : Terms). IsLeastDegreeAt (su
 pub returns-in_err-theta-clause-fault : goal.returns-in_err-theta-clause-fault
 returns-in_err-theta-clause-fault c =
     let p = err_from_is_err_and c.from_residual.result c.from_residual.ensures.1 in
-    rw (p.1, p.2) (λ i begins. subst (λ (n : ℕ). IsTailsFault (walls c.args.e.now.diagram) (c.args.limit - n) (exp_of c.args.t.now.0.exp) (point_of c.args.at.now) c.in_err-theta.field-0.0)
+    rw (p.1, p.2) (λ i begins. subst (λ (n : ℕ). IsTailsFault (walls c.args.tracers.now.diagram) (c.args.limit - n) (exp_of c.args.t.now.0.exp) (point_of c.args.at.now) c.in_err-theta.field-0.0)
     (first c.args.limit c.args.before.family.items c.as_slice.result.now c.args.t.now c.begun_at-begun.result i c.as_slice.ensures.value c.requires.term c.begun_at-begun.ensures.least begins) c.in_err-theta.ensures.fault)
 
 pub less-requires-clause-theta : goal.less-requires-clause-theta
@@ -31,7 +31,7 @@ less-requires-clause-theta c =
     let l = c.requires.given.limit in let b = c.requires.given.bound in
     subst (λ (f : Sum). IsFactor Wrapping f) (sym c.terms.ensures.terms)
     (theta-factor c.in_ok-theta.theta.0.order c.args.limit (key_of c.args.t.now.0) c.in_ok-theta.theta.0.terms (omega (arith, l, b)) c.requires.term.low c.terms.ensures.valid.order c.terms.ensures.valid.series c.requires.term.within
-    (given-nearby c.args.e.now c.args.limit (c.args.limit - c.begun_at-begun.result) (exp_of c.args.t.now.0.exp) c.args.at.now c.in_ok-theta.theta.0 c.requires.given c.in_ok-theta.ensures.theta c.in_ok-theta.ensures.free c.terms.ensures.valid))
+    (given-nearby c.args.tracers.now c.args.limit (c.args.limit - c.begun_at-begun.result) (exp_of c.args.t.now.0.exp) c.args.at.now c.in_ok-theta.theta.0 c.requires.given c.in_ok-theta.ensures.theta c.in_ok-theta.ensures.free c.terms.ensures.valid))
 
 pub returns-clause-taken : goal.returns-clause-taken
 returns-clause-taken c =
@@ -52,5 +52,5 @@ returns-clause-taken c =
       grows = c.grown-weight.ensures ∙ ap (λ (v : ℤ). min (c.args.before.weight + nat_abs v * c.in_ok-theta.theta.1) (largest_weight + 1)) (as-is c.args.t.now.1 c.requires.term.small);
       left = left;
       near = λ own near. taken-within c.args.limit (key_of c.args.t.now.0) (neg_ℤ c.args.t.now.1) c.in_ok-theta.theta.0.terms (sum_of c.args.before.left.items) (sum_of c.in_ok-left.left.items) c.requires.term.within
-          (given-nearby c.args.e.now c.args.limit (c.args.limit - c.begun_at-begun.result) (exp_of c.args.t.now.0.exp) c.args.at.now c.in_ok-theta.theta.0 c.requires.given c.in_ok-theta.ensures.theta c.in_ok-theta.ensures.free c.terms.ensures.valid) near (left (sum_of c.args.before.left.items) own);
+          (given-nearby c.args.tracers.now c.args.limit (c.args.limit - c.begun_at-begun.result) (exp_of c.args.t.now.0.exp) c.args.at.now c.in_ok-theta.theta.0 c.requires.given c.in_ok-theta.ensures.theta c.in_ok-theta.ensures.free c.terms.ensures.valid) near (left (sum_of c.args.before.left.items) own);
     }

@@ -1,10 +1,10 @@
-use Rattle.std.proofs.Common.{ℕ, sym, subst}
+use Rattle.std.proofs.Common.{sym, subst}
 use Rattle.trunc_series.specs.Shown.{Seen}
 use Rattle.broken_lines.specs.Growth.{exp_cmp}
 use Rattle.broken_lines.proofs.Growths.{exact-exp}
 use Rattle.theta_algebra.specs.declared.kept_thetas.KeptTheta.{KeptTheta}
 use Rattle.theta_algebra.specs.KeptThetas.{IsKeptTheta}
-use Rattle.theta_algebra.proofs.KeptMaps.{put-has, same-has}
+use Rattle.bend_finder.proofs.KeptMaps.{put-has, same-has}
 use Rattle.theta_algebra.proofs.kept_thetas.KeptThetas.keep.Goals as goal
 
 pub returns-in_err-insert : goal.returns-in_err-insert
