@@ -5,7 +5,7 @@ use Rattle.std.specs.List.{AllZip, list_any}
 use Rattle.std.proofs.lemmas.List.{take_more, take_all}
 use Rattle.std.proofs.lemmas.List.Elements.{All-nil, All-cons}
 use Rattle.std.proofs.lemmas.Int.{ints}
-use Rattle.std.proofs.lemmas.Bool.Decides.{nat_tests}
+use Rattle.std.proofs.lemmas.Bool.{le-ltb}
 use Rattle.limits.specs.Limits.{most_asks}
 use Rattle.scattering.specs.Series.{Exp}
 use Rattle.scattering.specs.Plane.{Point}
@@ -103,14 +103,11 @@ reader-same a h = let positive = h.valid.values.reader in omega (arith, ints, po
 
 -- ---- a file that passes no limit
 
-not-above : (n k : ℕ) → k ≤ n → nat_lt n k ≡ false
-not-above n k h = grind (arith, nat_tests)
-
 reader-low : (m n : ℕ) (a : AskRow) → m ≤ n → has_high_reader m a ≡ false → has_high_reader n a ≡ false
 unfolding has_high_reader
 reader-low m n a h e =
     let k : nat_abs a.reader ≤ m = not-less m (nat_abs a.reader) e in
-    not-above n (nat_abs a.reader) (omega (arith, k, h))
+    le-ltb n (nat_abs a.reader) (omega (arith, k, h))
 
 readers-low : (m n : ℕ) (rows : List AskRow) → m ≤ n → list_any (has_high_reader m) rows ≡ false → list_any (has_high_reader n) rows ≡ false
 readers-low m n [] h e = refl

@@ -9,23 +9,19 @@ use Rattle.std.specs.declared.cmp.Ordering.TheVariants.{Less, Equal, Greater}
 use Rattle.std.proofs.lemmas.Cmp.{int_cmp_total}
 use Rattle.std.proofs.lemmas.Map.Lookups.{CmpEqualImpliesEq, exact_signed}
 use Rattle.std.proofs.lemmas.List.Elements.{All-push}
+use Rattle.bend_finder.proofs.KeptMaps.{both-equal}
 use Rattle.scatter_text.specs.declared.file.TermRow.{TermRow}
 use Rattle.scatter_text.specs.Monomials.{exponents, Exponents, exponents_cmp, HasMonomials}
 use Rattle.scatter_text.specs.Values.{AreAlike}
 
 -- ---- the order tells lists apart
 
-then-equal : (r s : Ordering) → ordering_then r s ≡ Equal → (r ≡ Equal) × (s ≡ Equal)
-then-equal Less s e = absurd (cc)
-then-equal Equal s e = (refl, e)
-then-equal Greater s e = absurd (cc)
-
 exact-lists : CmpEqualImpliesEq (slice_cmp int_cmp)
 exact-lists [] [] e = refl
 exact-lists [] (y ∷ ys) e = absurd (cc)
 exact-lists (x ∷ xs) [] e = absurd (cc)
 exact-lists (x ∷ xs) (y ∷ ys) e =
-    let both = then-equal (int_cmp x y) (slice_cmp int_cmp xs ys) e in
+    let both = both-equal (int_cmp x y) (slice_cmp int_cmp xs ys) e in
     let first : x ≡ y = exact_signed x y both.0 in
     let rest : xs ≡ ys = exact-lists xs ys both.1 in
     λ i. first i ∷ rest i
