@@ -14,6 +14,7 @@ use Rattle.crossing_theory.proofs.LocalRuns.{passes-holds}
 use Rattle.broken_line_theory.proofs.GenericPoints.{on-own}
 use Rattle.scatter_diagram.specs.Shown.{wall_of, walls_of}
 use Rattle.scatter_diagram.specs.declared.wall.Wall.{Wall as CodeWall}
+use Rattle.bend_finder.specs.KeptRuns.{IsSomeRun}
 use Rattle.bend_finder.specs.Runs.{LiveRun, IsOneLine, IsRunOf, AreLiveRunsOf, AreAllLive, OnSome, IsFoundOn, IsPlainOn, all_walls}
 use Rattle.bend_finder.specs.Special.{live_holds, IsCrossedAt, StartsLive}
 use Rattle.bend_finder.proofs.Lines.{line-parallel, parallel-line, all-parallel, same-direction_of, on-same, run-line, run-within, run-has}
@@ -197,3 +198,8 @@ module _ (ls : List Wall) (rs : List LiveRun) (q : Point) (fs : List CodeWall) (
           let r = (h.some u.0 u.1).0 in
           ap (λ us. live_on us q) r.is
           ∙ filter-within (λ w. is_live w && is_on w q) (λ w. same_line r.line (supporting_line w)) ls (λ w i t. (filter-from (λ w. same_line r.line (supporting_line w)) ls w (subst (In w) r.is (kept w i t))).1)
+
+-- they are those along one line, or none
+pub found-run : (ls seen : List Wall) (q : Point) (g : List Wall) → IsFoundOn ls seen q g → IsSomeRun ls g
+found-run ls seen q [] h = tt
+found-run ls seen q (w ∷ ws) h = (h.some w (inl refl)).0

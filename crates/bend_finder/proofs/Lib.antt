@@ -10,6 +10,7 @@ pub mod PowerMajorants
 pub mod ExactPowers
 pub mod KeptEntries
 pub mod KeptMaps
+pub mod KeptRuns
 pub mod TakenPowers
 pub mod TermMasses
 pub mod PointBends

@@ -2,21 +2,16 @@
 --     AreKeptPowers ls k              what k keeps are powers of the product of the functions of the live ones of the walls ls
 --     AreKeptIn m n                m has no entry that n hasn't
 --     IsTaken P k most m v      v has P at the key k, and is of order `most` at least
---     IsReadyWith f k           what a finder keeps
 use Rattle.std.specs.Prelude.{◌≡◌, ℕ, ◌≤◌, List, Some}
 use Rattle.std.specs.BTreeMap.{BTreeMap, get}
 use Rattle.std.specs.Ordering.{int_cmp, nat_cmp, ordering_then}
 use Rattle.std.specs.declared.cmp.Ordering.{Ordering}
 use Rattle.scattering.specs.Plane.{Point}
-use Rattle.scattering.specs.Collections.{Every}
-use Rattle.scattering.specs.Wall.{Wall, IsWall}
+use Rattle.scattering.specs.Wall.{Wall}
 use Rattle.trunc_series.specs.Shown.{Seen, IsSeriesOf}
 use Rattle.trunc_series.specs.Capped.{IsMajorantOf}
 use Rattle.bend_finder.specs.declared.power_key.PowerKey.{PowerKey}
 use Rattle.bend_finder.specs.declared.kept.KeptPowers.{KeptPowers}
-use Rattle.limits.specs.Limits.{highest_order}
-use Rattle.bend_finder.specs.Ahead.{SeenFinder}
-use Rattle.bend_finder.specs.Live.{live_of}
 use Rattle.bend_finder.specs.Powers.{power_majorant, power_series}
 
 -- the order of keys: by x, y, w and the number
@@ -48,9 +43,3 @@ AreKeptIn m n = (k : PowerKey) (v : Seen) → HasPower m k v → HasPower n k v
 -- where all that m has has P
 abbrev pub IsTaken : (PowerKey → Seen → Type 0) → PowerKey → ℕ → BTreeMap PowerKey Seen → Seen → Type 0
 IsTaken P k most m v = (most ≤ v.order) × (AllHave P m → P k v)
-
--- what a finder keeps
-pub record IsReadyWith (f : SeenFinder) (k : KeptPowers) : Type 0 where
-  pub low : f.limit ≤ highest_order
-  pub proper : Every (IsWall f.limit) (live_of f)
-  pub kept : AreKeptPowers (live_of f) k

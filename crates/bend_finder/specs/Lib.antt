@@ -5,4 +5,5 @@ pub mod Crossings
 pub mod Special
 pub mod Powers
 pub mod Kept
+pub mod KeptRuns
 pub mod Bends

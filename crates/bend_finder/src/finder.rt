@@ -14,6 +14,7 @@ use crate::ahead::Ahead;
 use crate::bend::Bend;
 use crate::direction::direction_of;
 use crate::kept::KeptPowers;
+use crate::kept_runs::KeptRuns;
 use crate::live_walls::LiveWalls;
 use crate::turns::turns_at;
 use plane_geom::Point;
@@ -28,12 +29,12 @@ pub struct BendFinder<'e> {
     alloc: Global,
     /// Those that are live then.
     live: LiveWalls<'e>,
-    kept: KeptPowers,
+    kept: KeptRuns,
 }
 
 impl<'e> Model for BendFinder<'e> {
     ghost use Rattle.bend_finder.specs.Ahead.{SeenFinder};
-    ghost use Rattle.bend_finder.specs.Kept.{IsReadyWith};
+    ghost use Rattle.bend_finder.specs.KeptRuns.{IsReadyWith};
 
     ghost Value = { SeenFinder };
 
@@ -53,7 +54,7 @@ impl<'e> BendFinder<'e> {
         Ok(BendFinder {
             alloc,
             live,
-            kept: KeptPowers::new(alloc),
+            kept: KeptRuns::new(alloc),
         })
     }
 
@@ -103,8 +104,7 @@ impl<'e> BendFinder<'e> {
             // no broken line bends at a special point
             None => {
                 let walls = self.live.listed(self.alloc)?;
-                self.kept
-                    .coefficient(self.alloc, walls.as_slice(), at, x, key)
+                KeptPowers::new(self.alloc).coefficient(self.alloc, walls.as_slice(), at, x, key)
             }
         }
     }

@@ -10,6 +10,7 @@ mod crossings;
 mod direction;
 mod finder;
 mod kept;
+mod kept_runs;
 mod live;
 mod live_walls;
 mod masses;

@@ -10,6 +10,7 @@ ghost use Rattle.scatter_diagram.specs.Listed.{AreOfOrder};
 ghost use Rattle.scatter_diagram.specs.Shown.{walls_of};
 ghost use Rattle.bend_finder.specs.Ahead.{finder};
 ghost use Rattle.bend_finder.specs.Crossings.{AreCandidates};
+ghost use Rattle.bend_finder.specs.KeptRuns.{IsSomeRun};
 ghost use Rattle.bend_finder.specs.Live.{live_of};
 ghost use Rattle.bend_finder.specs.Runs.{IsPlainOn};
 
@@ -84,6 +85,7 @@ impl<'e> LiveWalls<'e> {
     pub(crate) fn on_plain(&self, q: &Point) -> Option<&[Wall]>
         ensures walls { MatchOption result (IsTrue (is_special (live_of self.now) (point_of q.now)))
             (λ ws. IsPlainOn (live_of self.now) (point_of q.now) (walls_of ws.now)) }
+        ensures run { MatchOption result ⊤ (λ ws. IsSomeRun (live_of self.now) (walls_of ws.now)) }
         ensures order { MatchOption result ⊤ (λ ws. AreOfOrder self.now.limit ws.now) }
     {
         plain_run(self.runs.as_slice(), q)

@@ -8,6 +8,7 @@ ghost use Rattle.plane_geom.specs.Shown.{point_of};
 ghost use Rattle.scatter_diagram.specs.Listed.{AreOfOrder};
 ghost use Rattle.scatter_diagram.specs.Shown.{wall_of, walls_of};
 ghost use Rattle.bend_finder.specs.Runs.{IsOneLine, AreOneLines, IsRunOf, AreLiveRunsOf, AreAllLive, OnSome, IsFoundOn, IsPlainOn, all_walls};
+ghost use Rattle.bend_finder.specs.KeptRuns.{IsSomeRun};
 ghost use Rattle.bend_finder.specs.Special.{live_starts, StartsLive};
 
 use crate::products::det;
@@ -34,6 +35,8 @@ pub(crate) fn plain_run<'a>(runs: &'a [Vec<Wall>], q: &Point) -> Option<&'a [Wal
     requires { AreOneLines runs.now }
     ensures walls { (ls : List PlaneWall) → AreLiveRunsOf ls runs.now → MatchOption result
         (IsTrue (is_special ls (point_of q.now))) (λ ws. IsPlainOn ls (point_of q.now) (walls_of ws.now)) }
+    ensures run { (ls : List PlaneWall) → AreLiveRunsOf ls runs.now → MatchOption result
+        ⊤ (λ ws. IsSomeRun ls (walls_of ws.now)) }
     ensures order { (n : ℕ) → Every (λ r. AreOfOrder n r.items) runs.now →
         MatchOption result ⊤ (λ ws. AreOfOrder n ws.now) }
 {

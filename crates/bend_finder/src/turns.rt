@@ -10,10 +10,10 @@ ghost use Rattle.joint_finder.specs.Joints.{points_of};
 ghost use Rattle.bend_finder.specs.Ahead.{IsTraceable, bends_of};
 ghost use Rattle.bend_finder.specs.Bends.{AreBends, told_bends, IsFirstSpecial};
 ghost use Rattle.bend_finder.specs.Live.{live_of};
-ghost use Rattle.bend_finder.specs.Kept.{AreKeptPowers};
+ghost use Rattle.bend_finder.specs.KeptRuns.{AreKeptRuns};
 
 use crate::bend::Bend;
-use crate::kept::KeptPowers;
+use crate::kept_runs::KeptRuns;
 use crate::live_walls::LiveWalls;
 use crate::masses::masses;
 use plane_geom::Point;
@@ -30,7 +30,7 @@ pub(crate) struct Turns {
 /// The bends of degree at most `most` at those of the points that aren't special, with their weights, and the first
 /// point that is.
 pub(crate) fn turns_at(
-    kept: &mut KeptPowers,
+    kept: &mut KeptRuns,
     alloc: Global,
     live: &LiveWalls<'_>,
     points: &[Point],
@@ -41,11 +41,11 @@ pub(crate) fn turns_at(
     requires low { live.now.limit ≤ highest_order }
     requires most { most ≤ live.now.limit }
     requires sorted { EveryPair (λ p q. IsTrue (point_before p q)) (points_of points.now) }
-    requires kept { AreKeptPowers (live_of live.now) kept.old }
+    requires kept { AreKeptRuns (live_of live.now) kept.old }
     ensures bends { IfOk result (λ r. AreBends most (live_of live.now) (exp_of x)
         (points_of points.now) (bends_of r.bends.items)) }
     ensures special { IfOk result (λ r. IsFirstSpecial (live_of live.now) points.now r.special) }
-    ensures kept { AreKeptPowers (live_of live.now) kept.new }
+    ensures kept { AreKeptRuns (live_of live.now) kept.new }
 {
     let mut bends = Vec::new(alloc);
     let mut special = None;

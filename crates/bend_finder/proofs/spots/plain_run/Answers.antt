@@ -6,7 +6,7 @@ use Rattle.scatter_diagram.specs.Shown.{walls_of}
 use Rattle.scatter_diagram.specs.declared.wall.Wall.{Wall as CodeWall}
 use Rattle.bend_finder.specs.Runs.{IsOneLine, IsRunOf, IsFoundOn, all_walls}
 use Rattle.bend_finder.proofs.Lines.{all-more, all-done, run-at}
-use Rattle.bend_finder.proofs.FoundWalls.{none-found_on, start-special, found-plain}
+use Rattle.bend_finder.proofs.FoundWalls.{none-found_on, start-special, found-plain, found-run}
 use Rattle.bend_finder.proofs.spots.plain_run.Goals as goal
 
 pub loop-run-init : goal.loop-run-init
@@ -63,3 +63,11 @@ returns-clause-walls c = λ ls h.
 
 pub returns-clause-order : goal.returns-clause-order
 returns-clause-order c = λ n h. c.loop-run.invariant.order n h
+
+pub returns-clause-run : goal.returns-clause-run
+returns-clause-run c = λ ls h.
+    let rs = c.args.runs.now in
+    let q = point_of c.args.q.now in
+    let f = c.loop-run.found.now in
+    let all : IsFoundOn ls (all_walls rs) q (walls_of f) = subst (λ (us : List Wall). IsFoundOn ls us q (walls_of f)) (all-done rs c.loop-run.run-index c.loop-run-test.false) (c.loop-run.invariant.walls ls h) in
+    found-run ls (all_walls rs) q (walls_of f) all

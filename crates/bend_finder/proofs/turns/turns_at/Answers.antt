@@ -7,7 +7,7 @@ use Rattle.joint_finder.specs.Joints.{points_of}
 use Rattle.bend_finder.specs.Ahead.{bends_of}
 use Rattle.bend_finder.specs.Bends.{AreBends, IsFirstSpecial}
 use Rattle.bend_finder.specs.Live.{live_of}
-use Rattle.bend_finder.specs.Kept.{AreKeptPowers}
+use Rattle.bend_finder.specs.KeptRuns.{AreKeptRuns}
 use Rattle.bend_finder.proofs.PointBends.{no-bends, special-none, low-none, bends-more, points-more, points-before, bends-along, first-plain, first-special}
 use Rattle.bend_finder.proofs.PowerMajorants.{orders-at_least}
 use Rattle.bend_finder.proofs.turns.turns_at.Goals as goal
@@ -46,9 +46,9 @@ loop-q-preserved c =
           let plain = w.in-Some.ensures.walls in
           record {
             bends = bends-along n ls x _ _ _ _ more (ap (λ v. bends_of v.items) w.bends-is ∙ w.in_ok-add_bends-in-Some.ensures)
-                (bends-more n ls x (point_of r) plain.0 w.in_ok-power-in-Some.power (w.in_ok-power-in-Some.ensures.power ls plain.1 c.loop-q.invariant.kept) (points_of (take i ps)) bs before c.loop-q.invariant.bends);
+                (bends-more n ls x (point_of r) plain.0 w.in_ok-power-in-Some.power (w.in_ok-power-in-Some.ensures.power ls plain.1 w.in-Some.ensures.run c.loop-q.invariant.kept) (points_of (take i ps)) bs before c.loop-q.invariant.bends);
             special = subst (IsFirstSpecial ls (take (i + 1) ps)) (sym w.special-is) (first-plain ls (take i ps) (take (i + 1) ps) r more plain.0 c.loop-q.special c.loop-q.invariant.special);
-            kept = subst (AreKeptPowers ls) (sym w.kept-is) (w.in_ok-power-in-Some.ensures.kept ls plain.1 c.loop-q.invariant.kept);
+            kept = subst (AreKeptRuns ls) (sym w.kept-is) (w.in_ok-power-in-Some.ensures.kept ls w.in-Some.ensures.run c.loop-q.invariant.kept);
           }
       | in-Some+else-most-gt0 w ↦
           let plain = w.in-Some.ensures.walls in
@@ -56,14 +56,14 @@ loop-q-preserved c =
           record {
             bends = bends-along n ls x _ _ _ _ more (ap (λ v. bends_of v.items) w.bends-is) (low-none n ls x (points_of (take i ps)) (point_of r) bs (omega (arith, low)) c.loop-q.invariant.bends);
             special = subst (IsFirstSpecial ls (take (i + 1) ps)) (sym w.special-is) (first-plain ls (take i ps) (take (i + 1) ps) r more plain.0 c.loop-q.special c.loop-q.invariant.special);
-            kept = subst (AreKeptPowers ls) (sym w.kept-is) c.loop-q.invariant.kept;
+            kept = subst (AreKeptRuns ls) (sym w.kept-is) c.loop-q.invariant.kept;
           }
       | in-None w ↦
           let s = w.in-None.ensures.walls in
           record {
             bends = bends-along n ls x _ _ _ _ more (ap (λ v. bends_of v.items) w.bends-is) (special-none n ls x (points_of (take i ps)) (point_of r) bs s c.loop-q.invariant.bends);
             special = subst (IsFirstSpecial ls (take (i + 1) ps)) (sym (w.special-is ∙ w.or-special.ensures)) (first-special ls (take i ps) (take (i + 1) ps) r more s before c.loop-q.special c.loop-q.invariant.special);
-            kept = subst (AreKeptPowers ls) (sym w.kept-is) c.loop-q.invariant.kept;
+            kept = subst (AreKeptRuns ls) (sym w.kept-is) c.loop-q.invariant.kept;
           }
     ]
 
@@ -74,3 +74,9 @@ returns-clause-bends c =
 pub returns-clause-special : goal.returns-clause-special
 returns-clause-special c =
     subst (λ (ps : List CodePoint). IsFirstSpecial (live_of c.args.live.now) ps c.loop-q.special) (take_all c.loop-q.q-index c.args.points.now c.loop-q-test.false) c.loop-q.invariant.special
+
+pub returns-in_err-power-in-Some-clause-kept : goal.returns-in_err-power-in-Some-clause-kept
+returns-in_err-power-in-Some-clause-kept c = c.majorant.ensures.kept (live_of c.args.live.now) c.in-Some.ensures.run c.loop-q.invariant.kept
+
+pub returns-in_err-add_bends-in-Some-clause-kept : goal.returns-in_err-add_bends-in-Some-clause-kept
+returns-in_err-add_bends-in-Some-clause-kept c = c.majorant.ensures.kept (live_of c.args.live.now) c.in-Some.ensures.run c.loop-q.invariant.kept

@@ -2,7 +2,7 @@ use Rattle.std.proofs.Common.{◌≡◌, ◌∙◌, sym, ap, subst, arith}
 use Rattle.scattering.specs.Wall.{walls}
 use Rattle.bend_finder.specs.Ahead.{SeenFinder, finder}
 use Rattle.bend_finder.specs.Live.{live_cut}
-use Rattle.bend_finder.specs.Kept.{IsReadyWith}
+use Rattle.bend_finder.specs.KeptRuns.{IsReadyWith}
 use Rattle.bend_finder.proofs.LiveCut.{live-proper}
 use Rattle.bend_finder.proofs.finder.BendFinder.new.Goals as goal
 

@@ -52,7 +52,7 @@ returns-in-Some-clause-value c =
     let l : degree b.key ≤ f.limit = rw (← c.self.view_is) at c.requires.degree in
     rw (← c.self.view_is)
     (if-ok _ (λ v. v ≡ coef (bend_series f.limit (cut_walls f.limit f.walls) b.at x) b.key) c.coefficient.result
-    (λ v h. h (live_of f) c.in-Some.ensures.walls.1 c.self.invariant.kept ∙ value-live f.walls f.limit c.self.invariant.proper x b l) c.coefficient.ensures.value)
+    (λ v h. h (live_of f) c.in-Some.ensures.walls.1 c.in-Some.ensures.run c.self.invariant.kept ∙ value-live f.walls f.limit c.self.invariant.proper x b l) c.coefficient.ensures.value)
 
 pub returns-in_ok-walls-in-None-clause-value : goal.returns-in_ok-walls-in-None-clause-value
 returns-in_ok-walls-in-None-clause-value c =
@@ -62,5 +62,12 @@ returns-in_ok-walls-in-None-clause-value c =
     let l : degree b.key ≤ f.limit = rw (← c.self.view_is) at c.requires.degree in
     rw (← c.self.view_is)
     (if-ok _ (λ v. v ≡ coef (bend_series f.limit (cut_walls f.limit f.walls) b.at x) b.key) c.coefficient-in-None.result
-    (λ v h. h (live_of f) (listed-live f b.at c.in_ok-walls-in-None.walls.items c.as_slice.result.now c.as_slice.ensures.value c.in_ok-walls-in-None.ensures.walls) c.self.invariant.kept
+    (λ v h. h (live_of f) (listed-live f b.at c.in_ok-walls-in-None.walls.items c.as_slice.result.now c.as_slice.ensures.value c.in_ok-walls-in-None.ensures.walls) (c.new.ensures (live_of f))
     ∙ value-live f.walls f.limit c.self.invariant.proper x b l) c.coefficient-in-None.ensures.value)
+
+pub invariant_of-self : goal.invariant_of-self
+invariant_of-self c = record {
+  low = c.self.invariant.low;
+  proper = c.self.invariant.proper;
+  kept = c.coefficient.ensures.kept (live_of c.self.inside.live) c.in-Some.ensures.run c.self.invariant.kept;
+}
