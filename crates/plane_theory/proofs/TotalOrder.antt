@@ -6,7 +6,6 @@ use Rattle.scattering.specs.Series.{Exp, Powers, Key, int_eq, exp_eq, exp_before
 use Rattle.scattering.specs.Plane.{Point, IsPoint, point_eq, point_before}
 use Rattle.scattering.proofs.Lists.{or-first, or-second, or-out, and-in, and-left, and-right}
 use Rattle.scattering.proofs.Keys.{exp_eq-refl, point_eq-refl, int_eq-refl, point_eq-same}
-use Rattle.scattering.proofs.Tests.{nat_lt-trans, nat_eq-same}
 use Rattle.scattering.proofs.KeyOrder.{exp_before-trans}
 use Rattle.plane_theory.proofs.PointOrder.{before-trans, before-total}
 
@@ -75,9 +74,6 @@ exp-total u v =
 
 first-total : (x y : ℕ) (l g : Bool) (E : Type 0) → Compared l g E → Compared (nat_lt x y || ((x == y) && l)) (nat_lt y x || ((y == x) && g)) ((x ≡ y) × E)
 first-total x y l g E c = two-total nat_lt (λ x y. x == y) nat-itself x y l g E (nat-total x y) c
-
-first-trans : (x y z : ℕ) (l m n : Bool) → (l ≡ true → m ≡ true → n ≡ true) → (nat_lt x y || ((x == y) && l)) ≡ true → (nat_lt y z || ((y == z) && m)) ≡ true → (nat_lt x z || ((x == z) && n)) ≡ true
-first-trans x y z l m n h = two-trans nat_lt (λ x y. x == y) nat_eq-same nat-itself x y z l m n (nat_lt-trans x y z) h
 
 pub powers-total : (p q : Powers) → Compared (powers_before p q) (powers_before q p) (p ≡ q)
 powers-total p q =

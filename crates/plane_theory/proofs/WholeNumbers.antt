@@ -9,7 +9,7 @@ use Rattle.scattering.proofs.Ring.{dif, dif-up, dif-pos, dif-add, dif-neg, dif-m
 pub dif-below : (n : ℕ) → negsuc n ≡ dif 0 (suc n)
 dif-below n = dif-up (negsuc n)
 
-nat-positive : (a b : ℕ) → 1 ≤ a → 1 ≤ b → 1 ≤ a * b
+pub nat-positive : (a b : ℕ) → 1 ≤ a → 1 ≤ b → 1 ≤ a * b
 nat-positive a b h k = omega (arith, mul-le-mul_left a k)
 
 pub not_negative : (x y : ℤ) → pos 0 ≤ℤ x → pos 0 ≤ℤ y → pos 0 ≤ℤ (x *ℤ y)

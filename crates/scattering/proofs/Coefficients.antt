@@ -65,6 +65,19 @@ low-cut n (t ∷ f) = go (nat_le (degree t.0) n) refl (low-cut n f)
     go true e h = (nat_le-yes (degree t.0) n e, h)
     go false e h = h
 
+pub cut-cut : (n k : ℕ) → n ≤ k → (f : Sum) → cut n (cut k f) ≡ cut n f
+cut-cut n k le [] = refl
+cut-cut n k le (t ∷ f) = go (nat_le (degree t.0) k) refl (nat_le (degree t.0) n) refl (cut-cut n k le f)
+  where
+    within : (d : ℕ) → nat_le d n ≡ true → nat_le d k ≡ true
+    within d q = grind arith
+
+    go : (a : Bool) → nat_le (degree t.0) k ≡ a → (b : Bool) → nat_le (degree t.0) n ≡ b → cut n (cut k f) ≡ cut n f → cut n (cond a (t ∷ cut k f) (cut k f)) ≡ cond b (t ∷ cut n f) (cut n f)
+    go true p true q h = rw q (ap (λ (r : Sum). t ∷ r) h)
+    go true p false q h = rw q h
+    go false p true q h = let x : nat_le (degree t.0) k ≡ true = within (degree t.0) q in absurd (cc)
+    go false p false q h = h
+
 pub mass-absolute : (n : ℕ) (f : Sum) → mass_to n (absolute f) ≡ mass_to n f
 mass-absolute n [] = refl
 mass-absolute n (t ∷ f) = ap (λ m. (elim (nat_le (degree t.0) n) [ true ↦ nat_abs t.1 | false ↦ 0 ]) + m) (mass-absolute n f)

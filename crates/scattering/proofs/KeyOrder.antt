@@ -9,7 +9,7 @@ use Rattle.scattering.proofs.Tests.{nat_lt-asym, nat_lt-trans}
 
 -- ---- one place of a lexicographic order
 
-same-step : (x y : ℕ) (l k : Bool) → (nat_lt x y || ((x == y) && l)) ≡ false → (nat_lt y x || ((y == x) && k)) ≡ false → (x ≡ y) × (l ≡ false) × (k ≡ false)
+pub same-step : (x y : ℕ) (l k : Bool) → (nat_lt x y || ((x == y) && l)) ≡ false → (nat_lt y x || ((y == x) && k)) ≡ false → (x ≡ y) × (l ≡ false) × (k ≡ false)
 same-step x y true true p q = absurd (grind arith)
 same-step x y true false p q = absurd (grind arith)
 same-step x y false true p q = absurd (grind arith)
@@ -18,7 +18,7 @@ same-step x y false false p q = (grind arith, refl, refl)
 same-last : (x y : ℕ) → nat_lt x y ≡ false → nat_lt y x ≡ false → x ≡ y
 same-last x y p q = grind arith
 
-trans-step : (x y z : ℕ) (l k m : Bool) → (nat_lt x y || ((x == y) && l)) ≡ true → (nat_lt y z || ((y == z) && k)) ≡ true → (l ≡ true → k ≡ true → m ≡ true) → (nat_lt x z || ((x == z) && m)) ≡ true
+pub trans-step : (x y z : ℕ) (l k m : Bool) → (nat_lt x y || ((x == y) && l)) ≡ true → (nat_lt y z || ((y == z) && k)) ≡ true → (l ≡ true → k ≡ true → m ≡ true) → (nat_lt x z || ((x == z) && m)) ≡ true
 trans-step x y z true true m p q h = rw (h refl refl) (grind arith)
 trans-step x y z true false m p q h = grind arith
 trans-step x y z false true m p q h = grind arith
@@ -32,13 +32,13 @@ eq-add a x y = grind arith
 
 -- ---- powers
 
-powers_before-same : (p q : Powers) → powers_before p q ≡ false → powers_before q p ≡ false → p ≡ q
+pub powers_before-same : (p q : Powers) → powers_before p q ≡ false → powers_before q p ≡ false → p ≡ q
 powers_before-same p q h i =
     let a = same-step p.t1 q.t1 _ _ h i in let b = same-step p.t2 q.t2 _ _ a.1 a.2 in let c = same-step p.t3 q.t3 _ _ b.1 b.2 in let d = same-step p.t4 q.t4 _ _ c.1 c.2 in
     let e = same-step p.t5 q.t5 _ _ d.1 d.2 in let f = same-step p.t6 q.t6 _ _ e.1 e.2 in let g = same-step p.t7 q.t7 _ _ f.1 f.2 in
     same-powers p q a.0 b.0 c.0 d.0 e.0 f.0 g.0 (same-last p.t8 q.t8 g.1 g.2)
 
-asym-step : (x y : ℕ) (l k : Bool) → (nat_lt x y || ((x == y) && l)) ≡ true → (nat_lt y x || ((y == x) && k)) ≡ true → (l ≡ true) × (k ≡ true)
+pub asym-step : (x y : ℕ) (l k : Bool) → (nat_lt x y || ((x == y) && l)) ≡ true → (nat_lt y x || ((y == x) && k)) ≡ true → (l ≡ true) × (k ≡ true)
 asym-step x y true true p q = (refl, refl)
 asym-step x y true false p q = absurd (grind arith)
 asym-step x y false true p q = absurd (grind arith)

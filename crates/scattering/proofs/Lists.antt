@@ -1,5 +1,5 @@
 -- Lists: what holds of every element, of every pair, and which elements a list has.
-use Rattle.std.proofs.Common.{◌≡◌, refl, subst, sym, ◌∙◌, ap, List, [], ◌∷◌, ◌++◌, map, Bool, true, false, inl, inr, ◌⊎◌, not}
+use Rattle.std.proofs.Common.{◌≡◌, refl, subst, sym, ◌∙◌, ap, List, [], ◌∷◌, ◌++◌, map, Bool, true, false, inl, inr, ◌⊎◌, not, ℕ, zero, suc, ◌<◌, length, get_or, arith}
 use Rattle.std.specs.Prelude.{filter, flat_map, ◌||◌, ◌&&◌}
 use Rattle.std.specs.List.{list_any, list_all}
 use Rattle.scattering.specs.Collections.{In, Every, EveryPair, put, in_order}
@@ -258,3 +258,24 @@ In-in_order before (x ∷ xs) y (inr i) = In-put before x y (in_order before xs)
 pub Every-images : {A B : Type 0} (P : B → Type 0) (f : A → B) (xs : List A) → Every (λ x. P (f x)) xs → Every P (map f xs)
 Every-images P f [] h = tt
 Every-images P f (x ∷ xs) h = (h.0, Every-images P f xs h.1)
+
+pub pairs-images : {A B : Type 0} (R : B → B → Type 0) (f : A → B) (xs : List A) → EveryPair (λ x y. R (f x) (f y)) xs → EveryPair R (map f xs)
+pairs-images R f [] h = tt
+pairs-images R f (x ∷ xs) h = (Every-images (R (f x)) f xs h.0, pairs-images R f xs h.1)
+
+-- one more at the end
+pub Every-push : {A : Type 0} (P : A → Type 0) (xs : List A) (x : A) → Every P xs → P x → Every P (xs ++ x ∷ [])
+Every-push P xs x h p = Every-append P xs (x ∷ []) h (p, tt)
+
+pub pairs-push : {A : Type 0} (R : A → A → Type 0) (xs : List A) (y : A) → EveryPair R xs → Every (λ x. R x y) xs → EveryPair R (xs ++ y ∷ [])
+pairs-push R [] y h k = (tt, tt)
+pairs-push R (x ∷ xs) y h k = (Every-push (R x) xs y h.0 k.0, pairs-push R xs y h.1 k.1)
+
+-- what holds of each element holds of that at an index
+pub Every-get : {A : Type 0} (P : A → Type 0) (xs : List A) (i : ℕ) (d : A) → i < length xs → Every P xs → P (get_or xs i d)
+Every-get P [] i d l h = absurd (omega (arith, l))
+Every-get P (x ∷ xs) zero d l h = h.0
+Every-get P (x ∷ xs) (suc i) d l h = Every-get P xs i d (omega (arith, l)) h.1
+
+pub Every-place : {A : Type 0} (P : A → Type 0) (xs : List A) (i : ℕ) (x : A) → i < length xs → x ≡ get_or xs i x → Every P xs → P x
+Every-place P xs i x l e h = subst P (sym e) (Every-get P xs i x l h)

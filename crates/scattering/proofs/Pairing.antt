@@ -7,11 +7,17 @@ use native.Mathlib.Decide.{dec_le}
 use Rattle.scattering.proofs.Ring.{dif-up, dif-pos, dif-add, dif-neg, dif-mul, dif-same}
 use Rattle.scattering.proofs.Keys.{key_eq-same, key_eq-refl}
 use Rattle.sum_algebra.proofs.Integers.{neg-mul}
+use Rattle.sum_algebra.proofs.Sums.{pair}
 
 -- the sum of c·φ(key) over the terms
 abbrev pub pairing : (Key → ℤ) → Sum → ℤ
 pairing φ [] = pos 0
 pairing φ (t ∷ f) = t.1 *ℤ φ t.0 +ℤ pairing φ f
+
+-- it is that of sums of any keys
+pub pairing-is_pair : (φ : Key → ℤ) (f : Sum) → pairing φ f ≡ pair φ f
+pairing-is_pair φ [] = refl
+pairing-is_pair φ (t ∷ f) = ap (λ r. t.1 *ℤ φ t.0 +ℤ r) (pairing-is_pair φ f)
 
 abbrev pub without : Key → Sum → Sum
 without x f = filter (λ t. not (key_eq t.0 x)) f

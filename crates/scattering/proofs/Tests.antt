@@ -1,5 +1,6 @@
 -- What tests say: those of natural numbers, and any.
-use Rattle.std.proofs.Common.{◌≡◌, ℕ, ◌<◌, ◌≤◌, ◌⊎◌, inl, inr, refl, Bool, true, false, arith}
+use Rattle.std.proofs.Common.{◌≡◌, ℕ, ◌<◌, ◌≤◌, ◌⊎◌, inl, inr, refl, Bool, true, false, arith, ◌≢◌}
+use native.Mathlib.Decide.{dec_le}
 use Rattle.std.specs.Prelude.{nat_le, nat_lt, ◌==◌, IsTrue}
 
 pub is-true : (b : Bool) → IsTrue b → b ≡ true
@@ -29,3 +30,9 @@ nat_lt-trans a b c h k = grind arith
 
 pub nat_eq-same : (a b : ℕ) → (a == b) ≡ true → a ≡ b
 nat_eq-same a b e = grind arith
+
+pub nat_case : (a b : ℕ) → (a ≡ b) ⊎ (a ≢ b)
+nat_case a b = elim (dec_le a b) [
+  | yes p ↦ elim (dec_le b a) [ yes q ↦ inl (omega (arith, p, q)) | no q ↦ inr (λ e. q (omega (arith, e))) ]
+  | no p ↦ inr (λ e. p (omega (arith, e)))
+]
