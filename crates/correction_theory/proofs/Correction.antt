@@ -2,7 +2,6 @@
 use Rattle.std.proofs.Common.{◌≡◌, ◌≢◌, ℕ, suc, refl, subst, sym, ◌∙◌, ap, List, [], ◌∷◌, ◌++◌, map, Bool, true, false, cond, ◌≤◌, ◌+◌, arith, inl, inr, ◌⊎◌}
 use Rattle.std.specs.Prelude.{ℤ, pos, ◌+ℤ◌, ◌-ℤ◌, ◌*ℤ◌, neg_ℤ, ◌≤ℤ◌, nat_abs, ◌||◌}
 use Rattle.std.specs.List.{list_any}
-use native.Mathlib.Decide.{dec_le}
 use Rattle.std.proofs.lemmas.Nat.Gcd.{same_from_IsGcd, dvd_refl, dvd-zero}
 use Rattle.std.specs.Int.{IsGcd}
 use Rattle.std.proofs.lemmas.Int.{ints}
@@ -24,6 +23,7 @@ use Rattle.scattering.specs.Correction.{Ratio, IsRatio, Lie, ratio_at}
 use Rattle.scattering.proofs.Lists.{any-none, Every-from_In, or-left, or-right, In-mapped, In-left, In-right}
 use Rattle.scattering.proofs.Keys.{key_eq-same, key_eq-refl, origin-case, int_eq-same}
 use Rattle.scattering.proofs.Determined.{coef-find}
+use Rattle.scattering.proofs.Tests.{nat_case}
 use Rattle.plane_theory.proofs.Directions.{det-scale, zero-factor, positive-not, as_multiple}
 use Rattle.crossing_theory.proofs.Keys.{keys}
 use Rattle.crossing_theory.proofs.Translation.{Eq, Eq-refl, Eq-trans, Eq-sym, key_test}
@@ -284,12 +284,6 @@ module _ (n : ℕ) (θ : Sum → Sum) (auto : IsAutomorphism (suc n) θ) (no-res
   build [] = record { h = []; ratios = tt; nonzero = tt; distinct = tt; degrees = tt; whole = tt; right = λ k e. absurd (cc); covers = λ k i d. absurd i }
   build (k ∷ ks) = go (build ks) (nat_case (degree k) (suc n)) (origin-case k.exp)
     where
-      nat_case : (a b : ℕ) → (a ≡ b) ⊎ (a ≢ b)
-      nat_case a b = elim (dec_le a b) [
-        | yes p ↦ elim (dec_le b a) [ yes q ↦ inl (omega (arith, p, q)) | no q ↦ inr (λ e. q (omega (arith, e))) ]
-        | no p ↦ inr (λ e. p (omega (arith, e)))
-      ]
-
       go : Built ks → (degree k ≡ suc n) ⊎ (degree k ≢ suc n) → (k.exp ≡ origin) ⊎ (k.exp ≢ origin) → Built (k ∷ ks)
       go b (inr other) o = same-built k ks b (λ d. absurd (other d))
       go b (inl deg) (inl o) = same-built k ks b (λ d. inr (at_origin k deg o))

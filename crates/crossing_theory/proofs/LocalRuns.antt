@@ -18,6 +18,7 @@ use Rattle.plane_theory.proofs.WholeNumbers.{cancel, follows2}
 use Rattle.plane_theory.proofs.Points.{minus-one}
 use Rattle.plane_theory.proofs.Directions.{direction-not_origin}
 use Rattle.plane_theory.proofs.AngleTies.{ties-are-multiples, multiples-equal}
+use Rattle.plane_theory.proofs.Angles.{turned}
 use Rattle.crossing_theory.proofs.CrossingLaws.{twice-negated}
 use Rattle.crossing_theory.proofs.OtherFunctions.{before}
 use Rattle.crossing_theory.proofs.SortingByAngle.{turns-trans, turns-asym}
@@ -25,9 +26,6 @@ use Rattle.scattering.specs.ActivePoint.{walls_on}
 use Rattle.crossing_theory.proofs.SupportingLines.{same_line-ties, same_line-flip, HasWall, lines-have_walls}
 
 -- ---- lines through a point
-
-abbrev turned : Exp → Exp
-turned d = record { a = neg_ℤ d.a; b = neg_ℤ d.b }
 
 abbrev pub Passes : SupportingLine → Point → Type 0
 Passes l p = l.over *ℤ p.w ≡ offset l.dir p *ℤ l.under
@@ -131,7 +129,7 @@ sided-direction s d k h = go (sided s d k)
 leads : (a b : ℤ) → (a ≡ pos 0 → b ≡ pos 0 → ⊥) → (int_lt (pos 0) (neg_ℤ a) || (int_eq (pos 0) (neg_ℤ a) && int_lt (pos 0) (neg_ℤ b))) ≡ not (int_lt (pos 0) a || (int_eq (pos 0) a && int_lt (pos 0) b))
 leads a b n = grind (arith, ints, n)
 
-turned-line : (d : Exp) → d ≢ origin → line_direction (turned d) ≡ line_direction d
+pub turned-line : (d : Exp) → d ≢ origin → line_direction (turned d) ≡ line_direction d
 turned-line d n = go (exp_before origin d) refl
   where
     twice : turned (turned d) ≡ d
