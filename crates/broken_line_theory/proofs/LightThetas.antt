@@ -1,10 +1,8 @@
 -- No coefficient of a theta exceeds the weight of all tails, and no degree the limit.
-use Rattle.std.proofs.Common.{◌≡◌, ◌≢◌, ℕ, ap, sym, subst, ◌∙◌, ◌≤◌, Bool, true, false, refl, List}
-use Rattle.std.specs.Prelude.{pos, nat_abs}
+use Rattle.std.proofs.Common.{◌≡◌, sym, subst, ◌∙◌, ◌≤◌, Bool, true, false, refl}
+use Rattle.std.specs.Prelude.{nat_abs}
 use Rattle.scattering.specs.Collections.{In}
-use Rattle.scattering.specs.Series.{Exp, Key, Sum, Term, Same, origin, exp_eq, coef, degree}
-use Rattle.scattering.specs.Wall.{Wall}
-use Rattle.scattering.specs.Tail.{Tail}
+use Rattle.scattering.specs.Series.{Key, Sum, Term, Same, origin, exp_eq, coef, degree}
 use Rattle.scattering.specs.Theta.{weights}
 use Rattle.scattering.proofs.Determined.{coef-find}
 use Rattle.scattering.proofs.Keys.{exp_eq-same}

@@ -12,7 +12,8 @@ use Rattle.scattering.specs.Tail.{Tail, IsTail, last, last_point}
 use Rattle.scattering.specs.Theta.{IsHit, IsMet}
 use Rattle.scattering.proofs.Ring.{dif-up, dif-pos, dif-add, dif-neg, dif-mul, dif-same}
 use Rattle.scattering.proofs.Lists.{Every-at, and-in, and-left, and-right, any-some, filter-from, filter-keeps, not-out, or-out}
-use Rattle.scattering.proofs.Keys.{int_eq-refl, point_eq-same, same-exp}
+use Rattle.scattering.proofs.Keys.{point_eq-same, same-exp}
+use Rattle.scattering.proofs.WallTests.{not-parallel}
 use Rattle.plane_theory.proofs.Directions.{zero-factor}
 use Rattle.plane_theory.proofs.WholeNumbers.{follows2}
 use Rattle.sum_algebra.proofs.Integers.{zero-or-not}
@@ -49,9 +50,6 @@ along-both u v x n h k = go (zero-or-not x.a) (zero-or-not x.b)
 abbrev pub IsCrossedOrStarts : List Wall → Point → Type 0
 IsCrossedOrStarts ws r = ((u v : Wall) × In u (live_on ws r) × In v (live_on ws r) × (det u.dir v.dir ≢ pos 0)) ⊎ ((w : Wall) × In w ws × (r ≡ w.at))
 
-not-zero : (u v : Wall) → not (are_parallel u v) ≡ true → det u.dir v.dir ≢ pos 0
-not-zero u v h z = let e : are_parallel u v ≡ true = rw z (int_eq-refl (pos 0)) in let f = not-out (are_parallel u v) h in cc
-
 live-in : (ws : List Wall) (r : Point) (u : Wall) → In u (walls_on ws r) → is_live u ≡ true → In u (live_on ws r)
 live-in ws r u i l = let o = filter-from (λ w. is_on w r) ws u i in filter-keeps (λ w. is_live w && is_on w r) ws u o.0 (and-in (is_live u) (is_on u r) l o.1)
 
@@ -68,7 +66,7 @@ special-cause ws r h = go (or-out _ _ h)
           v.0,
           live-in ws r u.0 u.1 (and-left (is_live u.0) (is_live v.0) l),
           live-in ws r v.0 v.1 (and-right (is_live u.0) (is_live v.0) l),
-          not-zero u.0 v.0 (and-right (is_live u.0 && is_live v.0) (not (are_parallel u.0 v.0)) v.2),
+          not-parallel u.0 v.0 (not-out (are_parallel u.0 v.0) (and-right (is_live u.0 && is_live v.0) (not (are_parallel u.0 v.0)) v.2)),
         )
     go (inr e) =
         let w = any-some (λ w. starts_at w r && is_live w) ws e in

@@ -1,8 +1,8 @@
 -- The tails below a node, from those below each next bend that m is still in reach of.
 use Rattle.std.proofs.Common.{◌≡◌, ◌≢◌, ℕ, refl, sym, ap, subst, ◌∙◌, ◌+◌, inl, inr, Bool, true, false, List, [], ◌∷◌, ◌++◌, map, cond}
-use Rattle.std.specs.Prelude.{flat_map, ◌&&◌}
+use Rattle.std.specs.Prelude.{flat_map}
 use Rattle.scattering.specs.Collections.{In, Every, Distinct, Lists}
-use Rattle.scattering.specs.Series.{Exp, Key, exp_sub, degree, key_eq}
+use Rattle.scattering.specs.Series.{Exp, exp_sub, degree, key_eq}
 use Rattle.scattering.specs.Plane.{Point, point_eq}
 use Rattle.scattering.specs.Wall.{Wall}
 use Rattle.scattering.specs.BrokenLine.{Bend}

@@ -1,11 +1,10 @@
 -- A series for any finite sum: terms are put in one after another.
-use Rattle.std.proofs.Common.{◌≡◌, ◌≢◌, ℕ, refl, sym, ap, subst, ◌∙◌, ◌≤◌, ◌⊎◌, inl, inr, arith, Bool, true, false, List, [], ◌∷◌, cond}
+use Rattle.std.proofs.Common.{◌≡◌, ◌≢◌, ℕ, refl, sym, ap, ◌∙◌, ◌≤◌, ◌⊎◌, inl, inr, arith, Bool, true, false, [], ◌∷◌, cond}
 use Rattle.std.specs.Prelude.{ℤ, pos, ◌+ℤ◌, IsTrue}
 use Rattle.std.proofs.lemmas.Int.{ints}
-use Rattle.scattering.specs.Collections.{Every, EveryPair}
+use Rattle.scattering.specs.Collections.{Every}
 use Rattle.scattering.specs.Series.{Key, Term, Sum, key_eq, key_before, coef, coef_at, degree, IsSeries}
 use Rattle.scattering.proofs.Lists.{Every-implies}
-use Rattle.scattering.proofs.Keys.{key_eq-refl}
 use Rattle.scattering.proofs.KeyOrder.{key_before-trans}
 use Rattle.sum_algebra.proofs.Integers.{zero-or-not}
 use Rattle.plane_theory.proofs.TotalOrder.{Compared, key-total}

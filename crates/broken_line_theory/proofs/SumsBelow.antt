@@ -1,12 +1,11 @@
 -- How many tails there are below a node, and the sums of their weights and values, from those below the next bends.
-use Rattle.std.proofs.Common.{◌≡◌, ℕ, suc, refl, sym, ap, ◌∙◌, ◌+◌, ◌*◌, arith, Bool, true, false, List, [], ◌∷◌, ◌++◌, length, map}
-use Rattle.std.specs.Prelude.{ℤ, pos, ◌*ℤ◌, filter, flat_map, cond}
+use Rattle.std.proofs.Common.{◌≡◌, ℕ, suc, refl, ap, ◌∙◌, ◌+◌, ◌*◌, arith, Bool, true, false, List, [], ◌∷◌, ◌++◌, length, map}
+use Rattle.std.specs.Prelude.{◌*ℤ◌, flat_map, cond}
 use Rattle.std.proofs.lemmas.List.{length-append}
-use Rattle.scattering.specs.Series.{Exp, Powers, Term, Sum, origin, exp_eq, exp_sub, powers_add, coef, one, mass_to, degree}
+use Rattle.scattering.specs.Series.{Exp, Sum, origin, exp_eq, exp_sub, powers_add, coef, one, mass_to, degree}
 use Rattle.scattering.specs.Wall.{Wall, cut_walls}
 use Rattle.scattering.specs.BrokenLine.{Bend, bend_series, bend_majorant}
 use Rattle.scattering.specs.Tail.{last, tail_weight}
-use Rattle.scattering.proofs.Lists.{map-append}
 use Rattle.broken_line_theory.specs.TailValue.{tail_value, values_below, weights_below, Parts, all_below, sum_each}
 
 -- ---- how many

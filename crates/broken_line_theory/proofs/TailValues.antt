@@ -1,15 +1,15 @@
 -- The value of a broken line, read off its tail from the root on.
-use Rattle.std.proofs.Common.{◌≡◌, ◌≢◌, ℕ, refl, sym, ap, subst, ◌∙◌, ◌+◌, ◌≤◌, arith, List, [], ◌∷◌, ◌++◌, map}
+use Rattle.std.proofs.Common.{◌≡◌, ℕ, refl, sym, ap, ◌∙◌, ◌+◌, arith, List, [], ◌∷◌, ◌++◌, map}
 use Rattle.std.specs.Prelude.{ℤ, pos, ◌*ℤ◌, reverse, IsFalse}
 use Rattle.std.proofs.lemmas.Int.{ints}
 use Rattle.scattering.specs.Collections.{Every}
-use Rattle.scattering.specs.Series.{Exp, Powers, Key, Term, origin, exp_add, exp_sub, det, powers_add, no_powers, coef, degree, pow, one}
+use Rattle.scattering.specs.Series.{Exp, Powers, Term, exp_add, exp_sub, det, powers_add, no_powers, coef, degree, pow}
 use Rattle.scattering.specs.Plane.{Point}
 use Rattle.scattering.specs.Wall.{Wall, cut_walls}
 use Rattle.scattering.specs.ActivePoint.{is_special}
 use Rattle.scattering.specs.BrokenLine.{Bend, IsBend, bend_series, live_on, product, final, value}
-use Rattle.scattering.specs.Tail.{Extends, IsTraced, Tail, IsTail, last}
-use Rattle.scattering.proofs.Ring.{dif-up, dif-add, dif-neg, dif-mul, dif-same, dif-pos}
+use Rattle.scattering.specs.Tail.{IsTraced, Tail, IsTail, last}
+use Rattle.scattering.proofs.Ring.{dif-up, dif-add, dif-neg, dif-mul, dif-same}
 use Rattle.scattering.proofs.Keys.{same-powers}
 use Rattle.broken_line_theory.specs.TailValue.{tail_value}
 use Rattle.broken_line_theory.proofs.Bends.{IsTame}

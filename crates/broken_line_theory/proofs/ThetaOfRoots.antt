@@ -1,16 +1,16 @@
 -- The theta and the weight of all tails, root by root, from the sums below each root.
-use Rattle.std.proofs.Common.{◌≡◌, ◌≢◌, ℕ, refl, sym, ap, subst, ◌∙◌, ◌+◌, arith, Bool, true, false, List, [], ◌∷◌, ◌++◌, map}
-use Rattle.std.specs.Prelude.{ℤ, None, filter, flat_map}
+use Rattle.std.proofs.Common.{◌≡◌, ◌≢◌, ℕ, refl, ap, subst, ◌∙◌, ◌+◌, arith, Bool, true, false, List, [], ◌∷◌, ◌++◌, map}
+use Rattle.std.specs.Prelude.{None, filter, flat_map}
 use Rattle.scattering.specs.Collections.{Every, Lists}
-use Rattle.scattering.specs.Series.{Exp, Sum, Term, origin, exp_eq}
+use Rattle.scattering.specs.Series.{Exp, Sum, origin, exp_eq}
 use Rattle.scattering.specs.Plane.{Point, IsPoint}
 use Rattle.scattering.specs.Wall.{Wall, IsWall}
 use Rattle.scattering.specs.BrokenLine.{Bend, value}
-use Rattle.scattering.specs.Tail.{IsInReach, IsTraced, Tail, IsTail, last, is_complete, tail_weight}
+use Rattle.scattering.specs.Tail.{IsInReach, IsTraced, Tail, last, is_complete, tail_weight}
 use Rattle.scattering.specs.Theta.{IsAskFault, IsTheta, IsWeight, weights}
 use Rattle.scattering.proofs.Keys.{exp_eq-same}
 use Rattle.scattering.proofs.Lists.{map-append}
-use Rattle.broken_line_theory.specs.TailValue.{tail_value, values_below, weights_below, sum_each}
+use Rattle.broken_line_theory.specs.TailValue.{values_below, weights_below, sum_each}
 use Rattle.broken_line_theory.proofs.Bends.{cut-walls-tame}
 use Rattle.broken_line_theory.proofs.TailsBelow.{tails-from_roots}
 use Rattle.broken_line_theory.proofs.TailValues.{complete-value}

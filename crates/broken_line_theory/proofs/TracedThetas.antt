@@ -12,6 +12,7 @@ use Rattle.scattering.specs.Tail.{IsTraced, tail_weight}
 use Rattle.scattering.specs.Theta.{IsTheta}
 use Rattle.scattering.proofs.Keys.{key_eq-same}
 use Rattle.broken_line_theory.proofs.TracedBends.{traced-used}
+use Rattle.plane_theory.proofs.WholeNumbers.{nat-positive}
 
 -- ---- a key's coefficient counts in the mass
 
@@ -39,9 +40,6 @@ some-mass n f k l h = go (mass_to n f) refl
 
 -- ---- weights of bends and tails
 
-factors-some : (a b : ℕ) → 1 ≤ a → 1 ≤ b → 1 ≤ a * b
-factors-some a b h k = grind arith
-
 first-below : (a b l : ℕ) → 1 ≤ b → a * b ≤ l → a ≤ l
 first-below a b l h k = grind arith
 
@@ -62,7 +60,7 @@ module _ (ws : List Wall) (n : ℕ) (m : Exp) where
   tail-weighs : (p : Point) (x : Exp) (used : ℕ) (cs : List Bend) → IsTraced ws n m p x used cs → 1 ≤ tail_weight ws n x cs
   tail-weighs p x used [] h = omega arith
   tail-weighs p x used (c ∷ cs) h =
-      factors-some (mass_of x c) (tail_weight ws n (exp_sub x c.key.exp) cs) (bend-weighs p x used c cs h)
+      nat-positive (mass_of x c) (tail_weight ws n (exp_sub x c.key.exp) cs) (bend-weighs p x used c cs h)
       (tail-weighs c.at (exp_sub x c.key.exp) (used + degree c.key) cs h.2)
 
   -- a light tail has a light first bend, and goes on light

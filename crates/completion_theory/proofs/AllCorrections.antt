@@ -1,14 +1,14 @@
 -- The active points can be listed in order, so the list of the corrections at all of them exists.
-use Rattle.std.proofs.Common.{◌≡◌, ◌≢◌, ℕ, refl, subst, sym, ap, List, [], ◌∷◌, ◌++◌, map, Bool, true, false, ◌+◌, inl, inr, ◌⊎◌}
-use Rattle.std.specs.Prelude.{ℤ, pos, filter, IsTrue}
+use Rattle.std.proofs.Common.{◌≡◌, ℕ, refl, subst, sym, ap, List, [], ◌∷◌, ◌++◌, map, Bool, true, false, ◌+◌, inl, inr, ◌⊎◌}
+use Rattle.std.specs.Prelude.{filter, IsTrue}
 use Rattle.scattering.specs.Collections.{In, Every, EveryPair}
-use Rattle.scattering.specs.Series.{det, int_eq}
-use Rattle.scattering.specs.Plane.{Point, IsPoint, point_before, difference}
+use Rattle.scattering.specs.Plane.{Point, IsPoint, point_before}
 use Rattle.scattering.specs.Wall.{Wall, IsWall, walls, is_on, are_parallel}
 use Rattle.scattering.specs.ActivePoint.{is_active}
 use Rattle.scattering.specs.Correction.{Lie, IsCorrection, IsWhole, Corrections, raised}
-use Rattle.scattering.proofs.Lists.{Every-from_In, Every-at, Every-append, Every-filter, filter-keeps, filter-from, and-left, In-mapped, In-left, In-right, Every-implies}
-use Rattle.scattering.proofs.Keys.{int_eq-same, point_eq-same}
+use Rattle.scattering.proofs.Lists.{Every-from_In, Every-at, Every-append, Every-filter, filter-keeps, filter-from, In-mapped, In-left, In-right, Every-implies}
+use Rattle.scattering.proofs.Keys.{point_eq-same}
+use Rattle.scattering.proofs.WallTests.{on-line, not-parallel}
 use Rattle.plane_theory.proofs.PointOrder.{before-total, before-trans}
 use Rattle.plane_theory.proofs.CommonPoints.{IsCommon, common, common-unique}
 use Rattle.completion_theory.proofs.RaisedDiagram.{lift_wall, lifted}
@@ -98,17 +98,11 @@ record Candidates (us vs : List Wall) : Type 0 where
   proper : Every IsPoint points
   all : (u v : Wall) → In u us → In v vs → are_parallel u v ≡ false → (p : Point) → IsPoint p → is_on u p ≡ true → is_on v p ≡ true → In p points
 
-on-line : (w : Wall) (p : Point) → is_on w p ≡ true → det w.dir (difference w.at p) ≡ pos 0
-on-line w p e = int_eq-same _ (pos 0) (and-left (int_eq (det w.dir (difference w.at p)) (pos 0)) _ e)
-
 -- of one wall with each of the others
 with-each : (u : Wall) → AtPoint u → (vs : List Wall) → Every AtPoint vs → (ps : List Point) × Every IsPoint ps × ((v : Wall) → In v vs → are_parallel u v ≡ false → (p : Point) → IsPoint p → is_on u p ≡ true → is_on v p ≡ true → In p ps)
 with-each u iu [] h = ([], tt, λ v i. absurd i)
 with-each u iu (v ∷ vs) h = go (are_parallel u v) refl (with-each u iu vs h.1)
   where
-    crosses : are_parallel u v ≡ false → det u.dir v.dir ≢ pos 0
-    crosses e z = let t : are_parallel u v ≡ true = subst (λ (c : ℤ). int_eq c (pos 0) ≡ true) (sym z) refl in absurd (cc)
-
     go : (b : Bool) → are_parallel u v ≡ b → (ps : List Point) × Every IsPoint ps × ((w : Wall) → In w vs → are_parallel u w ≡ false → (p : Point) → IsPoint p → is_on u p ≡ true → is_on w p ≡ true → In p ps)
         → (ps : List Point) × Every IsPoint ps × ((w : Wall) → In w (v ∷ vs) → are_parallel u w ≡ false → (p : Point) → IsPoint p → is_on u p ≡ true → is_on w p ≡ true → In p ps)
     go true e r = (r.0, r.1, each)
@@ -117,12 +111,12 @@ with-each u iu (v ∷ vs) h = go (are_parallel u v) refl (with-each u iu vs h.1)
         each w (inl q) f = let g : are_parallel u v ≡ false = subst (λ (x : Wall). are_parallel u x ≡ false) q f in absurd (cc)
         each w (inr i) f = r.2 w i f
     go false e r =
-        let c = common u.at u.dir v.at v.dir iu h.0 (crosses e) in
+        let c = common u.at u.dir v.at v.dir iu h.0 (not-parallel u v e) in
         (c.0 ∷ r.0, (c.1.point, r.1), each c.0 c.1)
       where
         each : (q : Point) → IsCommon u.at u.dir v.at v.dir q → (w : Wall) → In w (v ∷ vs) → are_parallel u w ≡ false → (p : Point) → IsPoint p → is_on u p ≡ true → is_on w p ≡ true → In p (q ∷ r.0)
         each q c w (inl s) f p ip a b =
-            inl (common-unique u.at u.dir v.at v.dir p q iu h.0 (crosses e) (record { point = ip; first = on-line u p a; second = on-line v p (subst (λ (x : Wall). is_on x p ≡ true) s b) }) c)
+            inl (common-unique u.at u.dir v.at v.dir p q iu h.0 (not-parallel u v e) (record { point = ip; first = on-line u p a; second = on-line v p (subst (λ (x : Wall). is_on x p ≡ true) s b) }) c)
         each q c w (inr i) f p ip a b = inr (r.2 w i f p ip a b)
 
 candidates : (us vs : List Wall) → Every AtPoint us → Every AtPoint vs → Candidates us vs

@@ -7,7 +7,7 @@ use Rattle.scattering.specs.Completion.{IsCompletion}
 use Rattle.scattering.specs.ActivePoint.{is_incoming}
 use Rattle.scattering.specs.Correction.{raised}
 use Rattle.scattering.specs.Stops.{StopCause, PointTooLarge, WeightTooLarge, TooManyWalls, StopsAfter, IsStopAt, IsFirstStop}
-use Rattle.completion_theory.proofs.RaisedDiagram.{cut-cut}
+use Rattle.scattering.proofs.Coefficients.{cut-cut}
 use Rattle.completion_theory.proofs.LowerOrders.{cut-cuts}
 
 pub completion-of_cut : (given : List Wall) (m n : ℕ) (e : Diagram) → n ≤ m → IsCompletion (cut_walls m given) n e → IsCompletion given n e

@@ -9,13 +9,12 @@ use Rattle.scattering.specs.Wall.{Outgoing, Wall, IsWall, is_live, cut_wall, cut
 use Rattle.scattering.specs.LocalProduct.{image, axis_x, axis_y}
 use Rattle.scattering.specs.Completion.{ray_before, IsReduced, lowered}
 use Rattle.scattering.proofs.Lists.{Every-append, Every-filter, pairs-filter, map-append, filters-every, Every-implies}
-use Rattle.scattering.proofs.Coefficients.{coef-cut}
+use Rattle.scattering.proofs.Coefficients.{coef-cut, cut-cut}
 use Rattle.scattering.proofs.Tests.{nat_le-yes}
 use Rattle.crossing_theory.proofs.Translation.{Eq, Eq-trans, Eq-sym, to_Eq, from_Eq, cut-same}
 use Rattle.crossing_theory.proofs.HalfWalls.{Proper, proper}
 use Rattle.crossing_theory.proofs.OtherFunctions.{image-refit, Fits}
 use Rattle.crossing_theory.proofs.CutFunctions.{proper-cut}
-use Rattle.completion_theory.proofs.RaisedDiagram.{cut-cut}
 use Rattle.crossing_theory.proofs.LiveWalls.{image-live, filter-append}
 use Rattle.sum_algebra.proofs.SmallCrossings.{Same-lower}
 use Rattle.crossing_theory.proofs.Keys.{keys}

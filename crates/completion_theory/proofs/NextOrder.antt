@@ -21,7 +21,7 @@ use Rattle.scattering.specs.Correction.{IsRatio, Lie, ratio_at, IsCorrection, Co
 use Rattle.scattering.proofs.Pairing.{coef-append}
 use Rattle.scattering.proofs.Lists.{Every-filter, Every-at, Every-implies}
 use Rattle.scattering.proofs.Keys.{key_eq-same, point_eq-refl, origin-case, key_eq-apart, point_eq-same}
-use Rattle.scattering.proofs.Coefficients.{coef-none}
+use Rattle.scattering.proofs.Coefficients.{coef-none, cut-cut}
 use Rattle.scattering.proofs.Tests.{bool_cases}
 use Rattle.plane_theory.proofs.Directions.{det-scale, zero-factor, positive-not, Multiple, as_multiple, direction-not_origin, scale-not_origin}
 use Rattle.crossing_theory.proofs.Translation.{Eq, from_Eq, key_test, coef-is}
@@ -33,7 +33,7 @@ use Rattle.crossing_theory.proofs.CutFunctions.{base, tops, added, one_le, grows
 use Rattle.correction_theory.proofs.RayGains.{less, less-back, ray-gains, coef-gain, tops-coef}
 use Rattle.correction_theory.proofs.ReducedRays.{rays-unique}
 use Rattle.completion_theory.proofs.RayStarts.{initial-gain}
-use Rattle.completion_theory.proofs.RaisedDiagram.{cut-cut, lift_wall, lifted, cut-lifted, Given, givens, passive-image, lifted-proper}
+use Rattle.completion_theory.proofs.RaisedDiagram.{lift_wall, lifted, cut-lifted, Given, givens, passive-image, lifted-proper}
 use Rattle.completion_theory.proofs.LowerOrders.{image-cut, directed-cut, every-wall-cut, every-outgoing, reduced-lower}
 use Rattle.completion_theory.proofs.UniqueCompletion.{image-next, on_axis, ray_coef-live, ray_coef-cut, ray_coef-high}
 use Rattle.completion_theory.specs.Laws.{NextOrderCompletes}

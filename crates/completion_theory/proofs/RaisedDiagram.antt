@@ -11,7 +11,7 @@ use Rattle.scattering.specs.LocalProduct.{image, axis_x, axis_y, IsConsistentAt}
 use Rattle.scattering.specs.Completion.{IsReduced}
 use Rattle.scattering.specs.ActivePoint.{is_incoming, is_active, walls_on}
 use Rattle.scattering.proofs.Lists.{Every-append, any-weaken, any-none, filter-keeps, Every-from_In, Every-at, any-false, In-map, filter-from, map-append, Every-mapped, and-right, or-left, or-right, Every-implies}
-use Rattle.scattering.proofs.Coefficients.{cut-low}
+use Rattle.scattering.proofs.Coefficients.{cut-low, cut-cut}
 use Rattle.crossing_theory.proofs.Translation.{Eq, to_Eq, from_Eq}
 use Rattle.crossing_theory.proofs.HalfWalls.{Proper, proper, small}
 use Rattle.crossing_theory.proofs.Carrying.{Passes}
@@ -22,19 +22,6 @@ use Rattle.completion_theory.proofs.RayStarts.{quiet-refit, no-start}
 use Rattle.completion_theory.specs.Laws.{PassivePointsAreConsistent}
 
 -- ---- cuts
-
-le-trans : (d n k : ℕ) → nat_le d n ≡ true → n ≤ k → nat_le d k ≡ true
-le-trans d n k e le = grind arith
-
-pub cut-cut : (n k : ℕ) → n ≤ k → (f : Sum) → cut n (cut k f) ≡ cut n f
-cut-cut n k le [] = refl
-cut-cut n k le (t ∷ f) = go (nat_le (degree t.0) k) refl (nat_le (degree t.0) n) refl (cut-cut n k le f)
-  where
-    go : (a : Bool) → nat_le (degree t.0) k ≡ a → (b : Bool) → nat_le (degree t.0) n ≡ b → cut n (cut k f) ≡ cut n f → cut n (cut k (t ∷ f)) ≡ cut n (t ∷ f)
-    go true p true q h = rw (p, q) (ap (λ r. t ∷ r) h)
-    go true p false q h = rw (p, q) h
-    go false p true q h = let x = le-trans (degree t.0) n k q le in absurd (cc)
-    go false p false q h = rw (p, q) h
 
 pub cut-rays : (n : ℕ) (rays : List Wall) → Every (IsWall n) rays → cut_walls n rays ≡ rays
 cut-rays n [] h = refl

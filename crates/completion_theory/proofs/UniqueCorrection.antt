@@ -1,7 +1,6 @@
 -- Rays start at active points, and a point has one correction.
 use Rattle.std.proofs.Common.{◌≡◌, ◌≢◌, ℕ, suc, refl, subst, sym, ◌∙◌, ap, List, [], ◌∷◌, ◌++◌, Bool, true, false, ◌+◌, arith, add-one, inl, inr, ◌⊎◌}
 use Rattle.std.specs.Prelude.{ℤ, pos, ◌*ℤ◌}
-use native.Mathlib.Decide.{dec_le}
 use Rattle.std.proofs.lemmas.Int.{ints}
 use Rattle.std.proofs.lemmas.Nat.Gcd.{dvd_refl, dvd-zero}
 use Rattle.sum_algebra.proofs.Ring.{var, ring}
@@ -15,6 +14,7 @@ use Rattle.scattering.specs.ActivePoint.{is_active}
 use Rattle.scattering.specs.Correction.{Ratio, IsRatio, Lie, ratio_at}
 use Rattle.scattering.proofs.Lists.{Every-at}
 use Rattle.scattering.proofs.Keys.{key_eq-same, point_eq-refl, origin-case}
+use Rattle.scattering.proofs.Tests.{nat_case}
 use Rattle.plane_theory.proofs.Directions.{det-scale, cancel, positive-not, same-direction, as_multiple}
 use Rattle.completion_theory.proofs.RaisedDiagram.{lifted, Given, givens, no-ray-starts}
 use Rattle.correction_theory.proofs.RayGains.{starts-is}
@@ -70,12 +70,6 @@ ratio-off n (t ∷ h) d k no_k = go (key_eq t.0 k) refl (ratio-off n h d.1 k no_
     go : (b : Bool) → key_eq t.0 k ≡ b → ratio_at h k ≡ record { num = pos 0; den = pos 1 } → ratio_at (t ∷ h) k ≡ record { num = pos 0; den = pos 1 }
     go true e f = let s = key_eq-same t.0 k e in absurd (no_k (sym (ap degree s) ∙ d.0.0) (λ o. d.0.1 (ap (λ (x : Key). x.exp) s ∙ o)))
     go false e f = rw e f
-
-pub nat_case : (a b : ℕ) → (a ≡ b) ⊎ (a ≢ b)
-nat_case a b = elim (dec_le a b) [
-  | yes p ↦ elim (dec_le b a) [ yes q ↦ inl (omega (arith, p, q)) | no q ↦ inr (λ e. q (omega (arith, e))) ]
-  | no p ↦ inr (λ e. p (omega (arith, e)))
-]
 
 crossed : (c rn rd sn sd g t : ℤ) → c *ℤ rd ≡ rn *ℤ (g *ℤ t) → c *ℤ sd ≡ sn *ℤ (g *ℤ t) → g ≢ pos 0 → t *ℤ (rn *ℤ sd) ≡ t *ℤ (sn *ℤ rd)
 crossed c rn rd sn sd g t e f n =

@@ -22,6 +22,7 @@ use Rattle.scattering.specs.Correction.{Ratio, Lie, ratio_at, IsCorrection, IsWh
 use Rattle.scattering.proofs.Lists.{Every-implies, Every-from_In, Every-at}
 use Rattle.scattering.proofs.Keys.{int_eq-same, key_eq-same, key_eq-apart}
 use Rattle.scattering.proofs.Ratios.{ratio-own}
+use Rattle.scattering.proofs.Tests.{nat_case}
 use Rattle.plane_theory.proofs.Directions.{zero-factor, cancel}
 use Rattle.crossing_theory.proofs.Keys.{keys}
 use Rattle.crossing_theory.proofs.Translation.{Eq, Eq-trans, key_test, coef-is, to_Eq}
@@ -32,7 +33,7 @@ use Rattle.crossing_theory.proofs.LocalProductLaws.{mul, IsAutomorphism, Eq-mul,
 use Rattle.correction_theory.proofs.RayGains.{less}
 use Rattle.correction_theory.proofs.LeadingDegree.{two-parts, weighted, weighted-right, coef-high, indicator-vanishes}
 use Rattle.completion_theory.proofs.CorrectionExists.{correction, whole-at}
-use Rattle.completion_theory.proofs.UniqueCorrection.{same-ratio, ratio-is, nat_case}
+use Rattle.completion_theory.proofs.UniqueCorrection.{same-ratio, ratio-is}
 use Rattle.weight_theory.specs.Laws.{HasFunction, HaveFunctions}
 use Rattle.degree_theory.specs.Images.{AgreesTo, ends, keeps}
 use Rattle.degree_theory.specs.OneSide.{IsOneSided, IsReadOf}

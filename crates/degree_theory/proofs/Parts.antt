@@ -1,6 +1,6 @@
 -- Parts of one degree, and sums that are equal at every key, by what they pair to.
-use Rattle.std.proofs.Common.{◌≡◌, ℕ, refl, sym, ap, ◌∙◌, ◌<◌, ◌≤◌, Bool, true, false, cond, [], ◌∷◌, ◌++◌, length, arith}
-use Rattle.std.specs.Prelude.{ℤ, pos, ◌+ℤ◌, ◌*ℤ◌, ◌==◌}
+use Rattle.std.proofs.Common.{◌≡◌, ℕ, refl, sym, ◌∙◌, ◌<◌, ◌≤◌, Bool, true, false, cond, [], ◌∷◌, ◌++◌, length, arith}
+use Rattle.std.specs.Prelude.{ℤ, pos, ◌*ℤ◌, ◌==◌}
 use Rattle.std.proofs.lemmas.Int.{ints}
 use Rattle.sum_algebra.proofs.Ring.{nought, ring}
 use Rattle.sum_algebra.proofs.IntegerRing.{ints_ring, ◌:+◌, ◌:*◌, ◌:-◌, X, Y}
@@ -9,7 +9,7 @@ use Rattle.sum_algebra.proofs.Coefficients.{indicator}
 use Rattle.scattering.specs.Series.{Key, Sum, degree, coef, minus, Same}
 use Rattle.scattering.specs.ThetaProduct.{of_degree}
 use Rattle.scattering.specs.Wall.{Wall}
-use Rattle.scattering.proofs.Pairing.{pairing, pairing-zero, pairing-append, pairing-minus, coef-append, coef-minus}
+use Rattle.scattering.proofs.Pairing.{pairing-zero, pairing-append, pairing-minus, coef-append, coef-minus, pairing-is_pair}
 use Rattle.crossing_theory.proofs.HalfWalls.{Proper, proper-by}
 use Rattle.crossing_theory.proofs.Translation.{key_test, coef-is}
 use Rattle.weight_theory.specs.Laws.{HasFunction}
@@ -17,17 +17,13 @@ use Rattle.weight_theory.specs.Laws.{HasFunction}
 abbrev pub All : Sum → Sum → Type 0
 All f g = (φ : Key → ℤ) → pair φ f ≡ pair φ g
 
-read : (φ : Key → ℤ) (f : Sum) → pairing φ f ≡ pair φ f
-read φ [] = refl
-read φ (t ∷ f) = ap (λ r. t.1 *ℤ φ t.0 +ℤ r) (read φ f)
-
 pub to_All : (f g : Sum) → Same f g → All f g
 to_All f g h φ =
     let z = pairing-zero φ (length (f ++ minus g)) (f ++ minus g) (omega arith) each in
     let a = pairing-append φ f (minus g) in
     let m = pairing-minus φ g in
-    let p = read φ f in
-    let q = read φ g in
+    let p = pairing-is_pair φ f in
+    let q = pairing-is_pair φ g in
     omega (arith, ints, z, a, m, p, q)
   where
     each : (x : Key) → coef (f ++ minus g) x *ℤ φ x ≡ pos 0

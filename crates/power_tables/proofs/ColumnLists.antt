@@ -11,6 +11,7 @@ use Rattle.trunc_series.specs.Reduced.{Terms}
 use Rattle.trunc_series.specs.Shown.{key_of, term_of, sum_of}
 use Rattle.std.proofs.lemmas.List.{take_more, take_all}
 use Rattle.scattering.proofs.Pairing.{coef-append}
+use Rattle.scattering.proofs.Lists.{Every-push}
 use Rattle.trunc_series.proofs.Terms.{no_term, at, sum_of-append}
 use Rattle.trunc_series.proofs.Coefficients.{add-zero}
 use Rattle.trunc_series.proofs.Kept.{kept-zero, keepable-zero}
@@ -89,15 +90,6 @@ get_or-any [] i d e h = absurd (omega (arith, h))
 get_or-any (x ∷ xs) zero d e h = refl
 get_or-any (x ∷ xs) (suc i) d e h = get_or-any xs i d e (omega (arith, h))
 
-pub every-get : {A : Type 0} (P : A → Type 0) (xs : List A) (i : ℕ) (d : A) → i < length xs → Every P xs → P (get_or xs i d)
-every-get P [] i d h e = absurd (omega (arith, h))
-every-get P (x ∷ xs) zero d h e = e.0
-every-get P (x ∷ xs) (suc i) d h e = every-get P xs i d (omega (arith, h)) e.1
-
-pub every-pushed : {A : Type 0} (P : A → Type 0) (xs : List A) (x : A) → Every P xs → P x → Every P (xs ++ x ∷ [])
-every-pushed P [] x e p = (p, tt)
-every-pushed P (y ∷ xs) x e p = (e.0, every-pushed P xs x e.1 p)
-
 pub column-value : (rule : Arithmetic) (ks : List CodeKey) (c : List ℤ) (i : ℕ) (d : ℤ) → length c ≡ length ks → i < length c → AreKeptValues rule (column_sum ks c) → IsKeptValue rule (get_or c i d)
 column-value rule ks [] i d s h e = absurd (omega (arith, h))
 column-value rule [] (y ∷ c) i d s h e = absurd (omega (arith, s))
@@ -161,7 +153,7 @@ grows-more rule ks0 ks ks' c c' terms i h v g s = record {
     keys (inr e) = (
       g.extended.0 ++ (at terms i).0 ∷ [],
       e ∙ ap (λ (r : List CodeKey). r ++ (at terms i).0 ∷ []) g.extended.1 ∙ append_assoc ks0 g.extended.0 ((at terms i).0 ∷ []),
-      every-pushed (λ k. In (key_of k) (map (λ (t : Term). t.0) (sum_of terms))) g.extended.0 (at terms i).0 g.extended.2 (key-in terms i h),
+      Every-push (λ k. In (key_of k) (map (λ (t : Term). t.0) (sum_of terms))) g.extended.0 (at terms i).0 g.extended.2 (key-in terms i h),
     )
 
 pub grows-last : (rule : Arithmetic) (ks0 ks : List CodeKey) (c : List ℤ) (terms : Terms) (i : ℕ) → length terms ≤ i → Grows rule ks0 ks c terms i → GetsColumn rule ks0 ks c (sum_of terms)

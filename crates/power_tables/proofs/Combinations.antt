@@ -12,6 +12,7 @@ use Rattle.scattering.specs.Series.{Exp, Key, Sum, Same, IsWallFunction, degree,
 use Rattle.scattering.specs.ThetaProduct.{of_degree}
 use Rattle.scattering.proofs.Pairing.{coef-append}
 use Rattle.scattering.proofs.Coefficients.{coef-above}
+use Rattle.scattering.proofs.Tests.{nat_case}
 use Rattle.trunc_series.specs.declared.arithmetic.Arithmetic.{Arithmetic}
 use Rattle.trunc_series.specs.declared.arithmetic.Arithmetic.TheVariants.{Wrapping, Saturating}
 use Rattle.trunc_series.specs.declared.key.Key.{Key as CodeKey}
@@ -25,7 +26,6 @@ use Rattle.trunc_series.proofs.TermLists.{keepable-values}
 use Rattle.power_tables.specs.Parts.{multiplier}
 use Rattle.power_tables.specs.Tables.{factor, column_sum, column_combination}
 use Rattle.power_tables.specs.Made.{others, AreColumns}
-use Rattle.power_tables.proofs.MadeParts.{by_degree}
 use Rattle.power_tables.proofs.Alike.{Alike, alike-append, alike-refl}
 
 times-zero : (c : ℤ) → c *ℤ pos 0 ≡ pos 0
@@ -122,7 +122,7 @@ module _ (c : ℕ → ℤ) (us : ℕ → Sum) (x : Key) where
 -- ---- the parts of a power
 
 none-of_one : (i : ℕ) (x : Key) → 1 ≤ i → coef (of_degree i one) x ≡ pos 0
-none-of_one i x h = go (by_degree (degree x) i)
+none-of_one i x h = go (nat_case (degree x) i)
   where
     go : (degree x ≡ i) ⊎ (degree x ≢ i) → coef (of_degree i one) x ≡ pos 0
     go (inl q) = (part-is-read i one x).0 q ∙ coef-above 0 one x (omega arith, tt) (omega (arith, q, h))

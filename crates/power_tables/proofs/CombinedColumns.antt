@@ -5,7 +5,7 @@ use Rattle.std.proofs.lemmas.Int.{ints}
 use Rattle.std.proofs.lemmas.List.{take_more}
 use Rattle.scattering.specs.Collections.{Every}
 use Rattle.scattering.specs.Series.{Key, Sum, coef}
-use Rattle.scattering.proofs.Lists.{Every-append}
+use Rattle.scattering.proofs.Lists.{Every-append, Every-get}
 use Rattle.scattering.proofs.Pairing.{coef-append}
 use Rattle.trunc_series.specs.declared.arithmetic.Arithmetic.{Arithmetic}
 use Rattle.trunc_series.specs.declared.key.Key.{Key as CodeKey}
@@ -17,7 +17,7 @@ use Rattle.degree_theory.specs.Parts.{scaled}
 use Rattle.power_tables.specs.Kept.{AreKeepable}
 use Rattle.power_tables.specs.Tables.{factor, column_sum, column_combination}
 use Rattle.power_tables.specs.Rows.{AddsScaled, AreCombined}
-use Rattle.power_tables.proofs.ColumnLists.{zeros-values, zeros-coef, length-zeros, every-get}
+use Rattle.power_tables.proofs.ColumnLists.{zeros-values, zeros-coef, length-zeros}
 use Rattle.power_tables.proofs.Powers.{length-take, every-take}
 use Rattle.power_tables.proofs.Combinations.{coef-scaled, scaled-keepable, factor-keepable}
 use Rattle.power_tables.proofs.ScaledColumns.{column-keepable, joined}
@@ -72,5 +72,5 @@ higher-next rule n keys first higher r c f old new l a h e g old_is s =
     let t : take (r + 1) higher ≡ take r higher ++ c ∷ [] = take_more higher r c l ∙ ap (λ (x : List ℤ). take r higher ++ x ∷ []) (sym e) in
     let z : length (take r higher) ≡ r = length-take r higher (omega (arith, l)) in
     subst (λ (cs : List (List ℤ)). AreCombined rule n (record { keys = keys; columns = first ∷ cs }) new) (sym t)
-    (combined-next rule n keys (first ∷ take r higher) c f old new (a, every-take (AreKeepable rule) higher r h) (subst (AreKeepable rule) (sym e) (every-get (AreKeepable rule) higher r c l h))
+    (combined-next rule n keys (first ∷ take r higher) c f old new (a, every-take (AreKeepable rule) higher r h) (subst (AreKeepable rule) (sym e) (Every-get (AreKeepable rule) higher r c l h))
     (subst (λ (i : ℕ). f ≡ kept rule (factor rule n i)) (let q : r + 2 ≡ suc (suc (length (take r higher))) = omega (arith, z) in q) g) old_is s)

@@ -1,13 +1,13 @@
 -- Parts of tables by the lists of terms that they were made of: their columns are the parts of the powers of u.
 use Rattle.std.proofs.Common.{◌≡◌, ℕ, zero, suc, ◌+◌, ◌*◌, ◌<◌, ◌≤◌, ◌/◌, ◌⊎◌, inl, inr, ◌≢◌, refl, sym, subst, ap, ◌∙◌, List, [], ◌∷◌, length, take, arith}
 use Rattle.std.specs.Prelude.{ℤ, ◌==◌}
-use Rattle.std.proofs.Math.Decide.{dec_le}
 use Rattle.std.proofs.Math.Nat.{div-eq_of_lt-le}
 use Rattle.scattering.specs.Collections.{In, Every}
 use Rattle.scattering.specs.Series.{Key, Term, Sum, degree, coef, one, rest, absolute, pow}
 use Rattle.scattering.specs.ThetaProduct.{of_degree}
 use Rattle.scattering.proofs.Lists.{Every-from_In, Every-at, In-map, Every-filter}
 use Rattle.scattering.proofs.Coefficients.{coef-cut}
+use Rattle.scattering.proofs.Tests.{nat_case}
 use Rattle.trunc_series.specs.declared.arithmetic.Arithmetic.{Arithmetic}
 use Rattle.trunc_series.specs.declared.arithmetic.Arithmetic.TheVariants.{Wrapping, Saturating}
 use Rattle.trunc_series.specs.declared.key.Key.{Key as CodeKey}
@@ -54,15 +54,6 @@ power-keys rule k f r i p h = degree-keys f i p (λ s g. h.grows s (others-withi
 
 -- ---- parts of powers
 
-pub by_degree : (d i : ℕ) → (d ≡ i) ⊎ (d ≢ i)
-by_degree d i = elim (dec_le d i) [
-  | yes h ↦ elim (dec_le i d) [
-    | yes g ↦ inl (omega (arith, h, g))
-    | no g ↦ inr (λ e. g (omega (arith, e)))
-  ]
-  | no h ↦ inr (λ e. h (omega (arith, e)))
-]
-
 pub others-alike : (rule : Arithmetic) (m : ℕ) (f : Sum) → IsValid m f → Alike rule (code_others rule f) (others rule f)
 others-alike Wrapping m f v = alike-refl Wrapping (rest f) (every-tt (rest f))
   where
@@ -73,7 +64,7 @@ others-alike Saturating m f v = reduced-alike Saturating m (absolute_sum (rest f
 
 module _ (rule : Arithmetic) (k m : ℕ) (f : Sum) (al : Alike rule (code_others rule f) (others rule f)) where
   pub power-same : (r i : ℕ) (p : Sum) → i ≤ k → IsPower rule k (code_others rule f) r p → (x : Key) → kept rule (coef (of_degree i p) x) ≡ kept rule (coef (of_degree i (pow i (others rule f) r)) x)
-  power-same r i p l h x = go (by_degree (degree x) i)
+  power-same r i p l h x = go (nat_case (degree x) i)
     where
       go : (degree x ≡ i) ⊎ (degree x ≢ i) → kept rule (coef (of_degree i p) x) ≡ kept rule (coef (of_degree i (pow i (others rule f) r)) x)
       go (inl q) =
@@ -82,7 +73,7 @@ module _ (rule : Arithmetic) (k m : ℕ) (f : Sum) (al : Alike rule (code_others
       go (inr o) = ap (kept rule) ((part-is-read i p x).1 o ∙ sym ((part-is-read i (pow i (others rule f) r) x).1 o))
 
   pub first-same : (i : ℕ) (x : Key) → kept rule (coef (of_degree i (code_others rule f)) x) ≡ kept rule (coef (of_degree i (pow i (others rule f) 1)) x)
-  first-same i x = go (by_degree (degree x) i)
+  first-same i x = go (nat_case (degree x) i)
     where
       go : (degree x ≡ i) ⊎ (degree x ≢ i) → kept rule (coef (of_degree i (code_others rule f)) x) ≡ kept rule (coef (of_degree i (pow i (others rule f) 1)) x)
       go (inl q) =

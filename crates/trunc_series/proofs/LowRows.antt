@@ -1,8 +1,9 @@
 -- Rows of the terms of a sum to each degree.
-use Rattle.std.proofs.Common.{◌≡◌, ℕ, zero, suc, ◌+◌, ◌<◌, ◌≤◌, refl, sym, subst, ap, ◌∙◌, Bool, true, false, cond, List, [], ◌∷◌, ◌++◌, map, length, get_or, zip, arith}
-use Rattle.std.specs.Prelude.{ℤ, nat_le}
+use Rattle.std.proofs.Common.{◌≡◌, ℕ, zero, suc, ◌+◌, ◌<◌, ◌≤◌, refl, sym, subst, ap, ◌∙◌, List, [], ◌∷◌, ◌++◌, map, length, get_or, zip, arith}
+use Rattle.std.specs.Prelude.{ℤ}
 use Rattle.std.proofs.lemmas.List.{length-map}
-use Rattle.scattering.specs.Series.{Sum, degree, cut}
+use Rattle.scattering.specs.Series.{Sum, cut}
+use Rattle.scattering.proofs.Coefficients.{cut-cut}
 use Rattle.trunc_series.specs.declared.key.Key.{Key as CodeKey}
 use Rattle.trunc_series.specs.declared.low_rows.Row.{Row}
 use Rattle.trunc_series.specs.Reduced.{Terms}
@@ -39,19 +40,6 @@ last-terms : (u : Sum) (d n : ℕ) (rows : List Row) → AreLowRows u d rows →
 last-terms u d n [] h e l = absurd (omega (arith, l))
 last-terms u d n (r ∷ []) h e l = h.0.terms ∙ ap (λ (m : ℕ). cut m u) (let p : d ≡ n = omega (arith, e) in p)
 last-terms u d n (r ∷ s ∷ rows) h e l = last-terms u (suc d) n (s ∷ rows) h.1 (omega (arith, e)) (omega arith)
-
-cut-cut : (n k : ℕ) → n ≤ k → (f : Sum) → cut n (cut k f) ≡ cut n f
-cut-cut n k le [] = refl
-cut-cut n k le (t ∷ f) = go (nat_le (degree t.0) k) refl (nat_le (degree t.0) n) refl (cut-cut n k le f)
-  where
-    within : (d : ℕ) → nat_le d n ≡ true → nat_le d k ≡ true
-    within d q = grind arith
-
-    go : (a : Bool) → nat_le (degree t.0) k ≡ a → (b : Bool) → nat_le (degree t.0) n ≡ b → cut n (cut k f) ≡ cut n f → cut n (cond a (t ∷ cut k f) (cut k f)) ≡ cond b (t ∷ cut n f) (cut n f)
-    go true p true q h = rw q (ap (λ (r : Sum). t ∷ r) h)
-    go true p false q h = rw q h
-    go false p true q h = let x : nat_le (degree t.0) k ≡ true = within (degree t.0) q in absurd (cc)
-    go false p false q h = h
 
 -- they are the rows of the sum without its terms of high degree
 rows-cut : (u : Sum) (d n : ℕ) (rows : List Row) → d + length rows ≤ n + 1 → AreLowRows u d rows → AreLowRows (cut n u) d rows

@@ -18,8 +18,8 @@ use Rattle.trunc_series.proofs.MajorantLaws.{reduced-of, majorant-mass}
 use Rattle.trunc_series.proofs.Inverses.{absolute-positive, powers-keepable, pow-reduced, powers-reduced}
 
 -- what is kept of a power, of the factor as it is kept
-of-power : (n i : ℕ) (f : Sum) (a p : Seen) → Keepable Saturating f → IsMajorantOf a n f → IsMajorantOf p n (pow n a.terms i) → IsMajorantOf p n (pow n f i)
-of-power n i f a p k ha hp =
+pub majorant-power : (n i : ℕ) (f : Sum) (a p : Seen) → Keepable Saturating f → IsMajorantOf a n f → IsMajorantOf p n (pow n a.terms i) → IsMajorantOf p n (pow n f i)
+majorant-power n i f a p k ha hp =
     let ra = reduced-of n a f ha k in
     let rp = reduced-of n p (pow n a.terms i) hp (pow-keepable Saturating n a.terms (whole Saturating a.terms ra.keeps) i) in
     record { order = hp.order; series = hp.series; capped = reduced-capped n p.terms (pow n f i) (pow-reduced Saturating n a.terms f ra i p.terms rp) }
@@ -28,7 +28,7 @@ tests : (x y : ℕ) → min x (2 ^ 126 + 1) ≡ min y (2 ^ 126 + 1) → (x ≤ 2
 tests x y e = (λ h. omega (arith, e, h), λ h. omega (arith, e, h))
 
 power-of : (n i : ℕ) (f : Sum) (a p : Seen) → Keepable Saturating f → IsMajorantOf a n f → IsMajorantOf p n (pow n a.terms i) → (mass_to n p.terms ≤ 2 ^ 126) ↔ (mass_to n (pow n f i) ≤ 2 ^ 126)
-power-of n i f a p k ha hp = tests _ _ (majorant-mass n p (pow n f i) (of-power n i f a p k ha hp) (pow-keepable Saturating n f k i) (pow-low n f i))
+power-of n i f a p k ha hp = tests _ _ (majorant-mass n p (pow n f i) (majorant-power n i f a p k ha hp) (pow-keepable Saturating n f k i) (pow-low n f i))
 
 pub power-tests : MajorantTestsPower
 power-tests n i f a p ha hp = power-of n i (absolute f) a p (absolute-whole f) ha hp

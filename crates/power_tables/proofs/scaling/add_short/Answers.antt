@@ -2,9 +2,9 @@ use Rattle.std.proofs.Common.{rules, ◌≡◌, ◌+◌, get_or, to_z, of_z, sym
 use Rattle.std.proofs.lemmas.Int.{to_z-of_z}
 use mir.Syntax.{w64, w128}
 use Rattle.trunc_series.specs.Arithmetic.{IsKeepable}
-use Rattle.power_tables.proofs.ColumnLists.{every-get}
 use Rattle.power_tables.proofs.ScaledColumns.{added-none, added-so_far, so_far-keepable, so_far-next, all-added}
 use Rattle.power_tables.proofs.scaling.add_short.Goals as goal
+use Rattle.scattering.proofs.Lists.{Every-get}
 
 pub loop-i-init : goal.loop-i-init
 loop-i-init c = sym (added-none c.args.rule c.args.c.now c.args.values.now.items)
@@ -15,7 +15,7 @@ add_product-requires-clause-inside c = added-so_far c.args.rule c.args.c.now c.a
 pub add_product-requires-clause-number : goal.add_product-requires-clause-number
 add_product-requires-clause-number c =
     let w : to_z w128 (of_z w128 c.from.result) ≡ get_or c.args.column.now c.loop-i.i (pos 0) = to_z-of_z w128 c.from.result (search rules) ∙ c.from.ensures ∙ to_z-of_z w64 (get_or c.args.column.now c.loop-i.i (pos 0)) (search rules) in
-    subst (IsKeepable c.args.rule) (sym w) (every-get (IsKeepable c.args.rule) c.args.column.now c.loop-i.i (pos 0) (search rules) c.requires.column)
+    subst (IsKeepable c.args.rule) (sym w) (Every-get (IsKeepable c.args.rule) c.args.column.now c.loop-i.i (pos 0) (search rules) c.requires.column)
 
 pub add_product-requires-clause-values : goal.add_product-requires-clause-values
 add_product-requires-clause-values c = so_far-keepable c.args.rule c.args.c.now c.args.values.now.items c.args.column.now c.loop-i.values.items c.loop-i.i c.loop-i.invariant c.requires.factor c.requires.values c.requires.column

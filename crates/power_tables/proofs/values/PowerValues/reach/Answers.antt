@@ -4,9 +4,9 @@ use mir.Syntax.{w64}
 use Rattle.power_tables.specs.declared.values.Entry.{Entry}
 use Rattle.power_tables.specs.Values.{SeenValues, AreOf}
 use Rattle.power_tables.specs.Entries.{AreCombinedParts, AreEntries}
-use Rattle.power_tables.proofs.ColumnLists.{every-get}
 use Rattle.power_tables.proofs.Entries.{every-set, get-set, set-length, to-entries, from-entries, reached}
 use Rattle.power_tables.proofs.values.PowerValues.reach.Goals as goal
+use Rattle.scattering.proofs.Lists.{Every-get}
 
 pub extend-requires-clause-entry : goal.extend-requires-clause-entry
 extend-requires-clause-entry c =
@@ -17,7 +17,7 @@ extend-requires-clause-entry c =
     (to-entries c.args.table.now c.parts-parts.result.now c.parts-parts.ensures.seen c.self.inside.entries.items (subst (λ (vs : List SeenValues). AreOf c.args.table.now vs) (sym c.self.view_is) c.requires.values)) in
     rw c.rule.ensures
     (subst (λ (e : Entry). AreCombinedParts c.args.table.now.rule e.exponent c.parts-parts.result.now e.filled e.parts.items) (sym c.index_mut-entry.ensures.value)
-    (every-get (λ (e : Entry). AreCombinedParts c.args.table.now.rule e.exponent c.parts-parts.result.now e.filled e.parts.items) c.make_place.new.entries.items (c.cast_unsigned.result % 64) c.index_mut-entry.result.now c.in_ok-make_place.ensures.made.0 es))
+    (Every-get (λ (e : Entry). AreCombinedParts c.args.table.now.rule e.exponent c.parts-parts.result.now e.filled e.parts.items) c.make_place.new.entries.items (c.cast_unsigned.result % 64) c.index_mut-entry.result.now c.in_ok-make_place.ensures.made.0 es))
 
 pub returns-clause-values : goal.returns-clause-values
 returns-clause-values c =
