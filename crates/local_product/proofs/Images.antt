@@ -8,7 +8,7 @@ use Rattle.scattering.specs.Series.{Exp, Key, Sum, Same, degree, coef, cut, mono
 use Rattle.scattering.specs.ThetaProduct.{of_degree}
 use Rattle.scattering.specs.LocalProduct.{carry, carry_majorant}
 use Rattle.scattering.proofs.Coefficients.{coef-above, cut-low}
-use Rattle.completion_theory.proofs.UniqueCorrection.{nat_case}
+use Rattle.scattering.proofs.Tests.{nat_case}
 use Rattle.degree_theory.proofs.PartLaws.{part-is-read}
 use Rattle.weight_theory.proofs.Stages.{image-is-below}
 use Rattle.weight_theory.proofs.Masses.{coefficient-is-below}

@@ -14,18 +14,12 @@ use Rattle.crossing_theory.proofs.SupportingLines.{runs-are_all}
 use Rattle.scatter_diagram.specs.Listed.{SeenDiagram}
 use Rattle.scatter_diagram.specs.declared.wall.Wall.{Wall as CodeWall}
 use Rattle.scatter_diagram.specs.Shown.{wall_of, walls_of}
-use Rattle.scattering.proofs.Lists.{Every-append, map-append}
+use Rattle.scattering.proofs.Lists.{Every-append, map-append, Every-place}
 use Rattle.local_product.specs.declared.wall_tables.WallTables.{WallTables}
 use Rattle.local_product.specs.declared.run_line.RunLine.{RunLine}
 use Rattle.local_product.specs.RunLines.{seen_line, IsLineOfFirst, AreLinesOf, IsOnlyAt}
 use Rattle.local_product.proofs.LineClasses.{lines-length}
 use Rattle.local_product.specs.Tabled.{TabledRun, AreTablesOf, tabled_walls, tabled_runs, HasTables}
-
--- what is so at each place is so at one of them
-pub Every-place : {A : Type 0} (P : A → Type 0) (xs : List A) (i : ℕ) (x : A) → i < length xs → x ≡ get_or xs i x → Every P xs → P x
-Every-place P [] i x l e h = absurd (omega (arith, l))
-Every-place P (y ∷ ys) zero x l e h = subst P (sym e) h.0
-Every-place P (y ∷ ys) (suc i) x l e h = Every-place P ys i x (omega (arith, l)) e h.1
 
 -- one more of a list whose parts are put together
 pub joined-more : {A B : Type 0} (f : A → List B) (xs : List A) (i : ℕ) (x : A) → i < length xs → x ≡ get_or xs i x → flat_map f (take (i + 1) xs) ≡ flat_map f (take i xs) ++ f x

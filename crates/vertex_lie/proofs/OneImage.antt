@@ -3,9 +3,9 @@ use Rattle.std.proofs.Common.{◌≡◌, ◌≢◌, ℕ, ◌<◌, ◌^◌, refl,
 use Rattle.std.specs.Prelude.{ℤ, pos, ◌-ℤ◌, ◌*ℤ◌, neg_ℤ, not, ◌&&◌, ◌==◌, nat_abs}
 use Rattle.std.proofs.lemmas.Int.{ints}
 use Rattle.sum_algebra.proofs.Ring.{minus, nought, unit, ring}
-use Rattle.sum_algebra.proofs.IntegerRing.{ints_ring, ◌:*◌, ◌:-◌, X, Y, Z, W}
+use Rattle.sum_algebra.proofs.IntegerRing.{ints_ring, ◌:*◌, ◌:-◌, X, Y, Z}
 use Rattle.scattering.specs.Collections.{Every}
-use Rattle.scattering.specs.Series.{Exp, Key, Term, Sum, key_mul, z, degree, det, origin, int_eq, coef}
+use Rattle.scattering.specs.Series.{Key, Term, Sum, key_mul, z, degree, det, origin, int_eq, coef}
 use Rattle.scattering.specs.LocalProduct.{axis_x, axis_y}
 use Rattle.scattering.specs.Correction.{IsRatio, Lie, ratio_at}
 use Rattle.scattering.proofs.Lists.{Every-implies, and-right}
@@ -17,7 +17,7 @@ use Rattle.vertex_lie.specs.declared.leading_part.Reading.TheVariants as reading
 use Rattle.vertex_lie.specs.Shown.{IsElement}
 use Rattle.vertex_lie.specs.Leading.{axis_of, reading_of, is_read, turn, read_from, AreQuotients, IsDividend, IsLeadingAlong, HasNothingAlong}
 use Rattle.vertex_lie.proofs.OfKey.{distinct-rising}
-use Rattle.vertex_lie.proofs.ReadTerms.{is_shown, degree-is, read-every, read-series, read-small, read-keys, read-coef}
+use Rattle.vertex_lie.proofs.ReadTerms.{degree-is, read-every, read-series, read-small, read-keys, read-coef}
 use Rattle.vertex_lie.proofs.Divided.{quotients-keys, quotients-rise, quotients-nonzero, quotients-ratio}
 use Rattle.vertex_lie.proofs.LeadingParts.{nothing}
 

@@ -7,7 +7,7 @@ use Rattle.scattering.specs.Correction.{Ratio, IsRatio, Lie, ratio_at}
 use Rattle.scattering.proofs.Keys.{key_eq-same, key_eq-refl}
 use Rattle.completion_theory.proofs.UniqueCorrection.{ratio-is}
 use Rattle.scattering.proofs.KeyOrder.{key_before-trans}
-use Rattle.scattering.proofs.Lists.{Every-implies, Every-append, Every-left, Every-right}
+use Rattle.scattering.proofs.Lists.{Every-implies, Every-append, Every-left, Every-right, pairs-push}
 use Rattle.scattering.proofs.StrictOrders.{apart-back}
 use Rattle.vertex_lie.specs.Shown.{of_key}
 use Rattle.vertex_lie.specs.RationalBracket.{AreSame, plus, zero_ratio, sum_from, AddFits, SumsFit, values_at, IsSummed, IsSumWith}
@@ -20,10 +20,6 @@ abbrev pub Rises : Lie → Type 0
 Rises f = EveryPair (λ t u. IsTrue (key_before t.0 u.0)) f
 
 -- ---- a list and one more
-
-pairs-push : (R : Coefficient → Coefficient → Type 0) (f : Lie) (s : Coefficient) → EveryPair R f → Every (λ u. R u s) f → EveryPair R (f ++ s ∷ [])
-pairs-push R [] s r e = (tt, tt)
-pairs-push R (u ∷ f) s r e = (Every-append (R u) f (s ∷ []) r.0 (e.0, tt), pairs-push R f s r.1 e.1)
 
 pairs-last : (R : Coefficient → Coefficient → Type 0) (f : Lie) (s : Coefficient) → EveryPair R (f ++ s ∷ []) → Every (λ u. R u s) f
 pairs-last R [] s r = tt

@@ -1,12 +1,11 @@
 -- Majorants as they are kept: a crossing of what is kept gives what is kept of the crossing, and so does the mass.
-use Rattle.std.proofs.Common.{◌≡◌, ℕ, ◌+◌, ◌^◌, refl, sym, ap, ◌∙◌, [], ◌∷◌, length, min, arith}
-use Rattle.std.specs.Prelude.{ℤ, pos, ◌+ℤ◌, ◌*ℤ◌, ◌≤ℤ◌, nat_le, cond, Bool, true, false}
+use Rattle.std.proofs.Common.{◌≡◌, ℕ, ◌+◌, ◌^◌, sym, ap, ◌∙◌, length, min, arith}
+use Rattle.std.specs.Prelude.{ℤ, pos, ◌≤ℤ◌, nat_le, cond, Bool, true, false}
 use Rattle.std.specs.Int.{int_min}
 use Rattle.std.proofs.lemmas.Int.{ints, clamps}
-use Rattle.sum_algebra.proofs.Sums.{pair}
 use Rattle.scattering.specs.Series.{Key, Exp, Sum, degree, coef, absolute, mass_to}
 use Rattle.scattering.specs.LocalProduct.{cross_majorant}
-use Rattle.scattering.proofs.Pairing.{pairing}
+use Rattle.scattering.proofs.Pairing.{pairing, pairing-is_pair}
 use Rattle.trunc_series.specs.declared.arithmetic.Arithmetic.TheVariants.{Saturating}
 use Rattle.trunc_series.specs.Shown.{Seen}
 use Rattle.trunc_series.specs.Arithmetic.{kept, limit}
@@ -22,12 +21,8 @@ use Rattle.wall_auto.proofs.Substituted.{substituted-kept}
 
 -- ---- masses
 
-read : (φ : Key → ℤ) (f : Sum) → pairing φ f ≡ pair φ f
-read φ [] = refl
-read φ (t ∷ f) = ap (λ r. t.1 *ℤ φ t.0 +ℤ r) (read φ f)
-
 counted : (k : ℕ) (f : Sum) → IsNonnegative f → pairing (counts k) f ≡ pos (mass_to k f)
-counted k f q = read (counts k) f ∙ counted-exactly k f q
+counted k f q = pairing-is_pair (counts k) f ∙ counted-exactly k f q
 
 -- what is kept of the mass depends on what is kept of the coefficients
 pub same-mass : (k : ℕ) (F G : Sum) → IsNonnegative F → IsNonnegative G → ((x : Key) → kept Saturating (coef F x) ≡ kept Saturating (coef G x)) → min (mass_to k F) (2 ^ 126 + 1) ≡ min (mass_to k G) (2 ^ 126 + 1)

@@ -1,8 +1,8 @@
 use Rattle.std.proofs.Common.{◌∙◌, arith}
 use Rattle.local_product.specs.Tabled.{HalfHasTables}
-use Rattle.local_product.proofs.Local.{Every-place}
 use Rattle.local_product.proofs.Bounded.{reaches-more}
 use Rattle.local_product.proofs.bound.reach_of.Goals as goal
+use Rattle.scattering.proofs.Lists.{Every-place}
 
 pub loop-h-preserved : goal.loop-h-preserved
 loop-h-preserved c =

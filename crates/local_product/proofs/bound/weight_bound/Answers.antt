@@ -1,12 +1,12 @@
 use Rattle.std.proofs.Common.{ℕ, List, ◌∙◌, subst, sym, arith}
 use Rattle.scattering.specs.LocalProduct.{Half}
+use Rattle.scattering.proofs.Lists.{Every-place}
 use Rattle.plane_geom.specs.Shown.{vector_of as direction_of}
 use Rattle.weight_bounds.specs.Bounds.{BoundsImages, ReachesHalves}
 use Rattle.weight_bounds.specs.Masses.{IsReached}
 use Rattle.weight_bounds.specs.Tables.{IsMassTable}
 use Rattle.local_product.specs.Shown.{half_of, halves_of}
 use Rattle.local_product.specs.Tabled.{HalfHasTables}
-use Rattle.local_product.proofs.Local.{Every-place}
 use Rattle.local_product.proofs.Bounded.{one-half-more, reaches-all, reaches-one}
 use Rattle.local_product.proofs.bound.weight_bound.Goals as goal
 

@@ -4,9 +4,10 @@ use Rattle.std.specs.List.{flat_map}
 use Rattle.plane_geom.specs.Shown.{point_of}
 use Rattle.local_product.specs.Shown.{halves_of}
 use Rattle.local_product.specs.Tabled.{HasTables, HalvesHaveTables}
-use Rattle.local_product.proofs.Local.{Every-place, wall_halves, tabled-halves, wall-more, wall-off}
+use Rattle.local_product.proofs.Local.{wall_halves, tabled-halves, wall-more, wall-off}
 use Rattle.local_product.proofs.half_walls.push_run.Goals as goal
 use Rattle.local_product.proofs.half_walls.push_run.Goals.{then-holds+in_ok-push_halves, else-holds}
+use Rattle.scattering.proofs.Lists.{Every-place}
 
 pub loop-w-preserved : goal.loop-w-preserved
 loop-w-preserved c =

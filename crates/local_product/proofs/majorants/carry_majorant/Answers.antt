@@ -3,9 +3,9 @@ use Rattle.trunc_series.specs.declared.arithmetic.Arithmetic.TheVariants.{Satura
 use Rattle.trunc_series.specs.Shown.{exp_of}
 use Rattle.wall_auto.proofs.Results.{is-table}
 use Rattle.local_product.specs.Majorants.{HasMajorant}
-use Rattle.local_product.proofs.Local.{Every-place}
 use Rattle.local_product.proofs.Stages.{within-near, kept-by, kept-for, next-majorant-stands, next-majorant-within}
 use Rattle.local_product.proofs.majorants.carry_majorant.Goals as goal
+use Rattle.scattering.proofs.Lists.{Every-place}
 
 pub loop-h-init : goal.loop-h-init
 loop-h-init c = let e = c.in_ok-start.ensures in record {

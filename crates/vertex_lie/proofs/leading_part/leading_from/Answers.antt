@@ -1,8 +1,3 @@
-use Rattle.vertex_lie.specs.Leading.{axis_of, reading_of, AreQuotients, IsDividend, IsLeadingAlong, turn, read_from}
-use Rattle.std.proofs.Common.{◌≡◌, subst, ◌∙◌, ap, sym}
-use Rattle.scattering.specs.Collections.{Every}
-use Rattle.scattering.specs.Series.{Sum}
-use Rattle.trunc_series.specs.Shown.{sum_of}
 use Rattle.vertex_lie.specs.Shown.{lie_of}
 use Rattle.vertex_lie.proofs.Arranged.{ratios-lowest}
 use Rattle.vertex_lie.proofs.OneImage.{dividends, along-element, leading-along}
