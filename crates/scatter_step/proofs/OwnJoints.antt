@@ -10,7 +10,7 @@ use Rattle.scattering.specs.Wall.{Wall, Diagram, IsWall, walls}
 use Rattle.scattering.specs.ActivePoint.{is_active}
 use Rattle.scattering.specs.Completion.{IsCompletion}
 use Rattle.scattering.specs.Correction.{Lie, Corrections, AreCorrections, raised}
-use Rattle.scattering.proofs.Lists.{Every-at, Every-implies, Every-images}
+use Rattle.scattering.proofs.Lists.{Every-at, Every-implies, Every-images, pairs-images}
 use Rattle.completion_theory.proofs.ActivePoints.{CrossesAt, EntersAt, active-out, added_terms_activate_nothing}
 use Rattle.plane_geom.specs.Shown.{point_of}
 use Rattle.plane_geom.specs.declared.Point.{Point as CodePoint}
@@ -20,10 +20,6 @@ use Rattle.ray_merge.specs.Additions.{corrections_of}
 use Rattle.scatter_step.specs.Completed.{SeenCompleted, IsCompleted, AreOwnJoints, KeepsItsPoints}
 use Rattle.scatter_step.proofs.Lines.{lines-initial, raised-lines}
 use Rattle.scatter_step.proofs.NextOrder.{unraised, walls-proper}
-
-pairs-images : {A B : Type 0} (R : B → B → Type 0) (f : A → B) (xs : List A) → EveryPair (λ x y. R (f x) (f y)) xs → EveryPair R (map f xs)
-pairs-images R f [] h = tt
-pairs-images R f (x ∷ xs) h = (Every-images (R (f x)) f xs h.0, pairs-images R f xs h.1)
 
 pub points-of-corrections : (cs : List (CodePoint × Lie)) → points_of (map (λ c. c.0) cs) ≡ map (λ c. c.0) (corrections_of cs)
 points-of-corrections [] = refl
