@@ -8,8 +8,9 @@ use Rattle.scattering.specs.SupportingLine.{line_direction, supporting_line, sam
 use Rattle.scattering.specs.Wall.{Wall, is_on, is_live, is_line, starts_at, are_parallel}
 use Rattle.scattering.specs.ActivePoint.{is_special}
 use Rattle.scattering.specs.BrokenLine.{live_on}
-use Rattle.scattering.proofs.Lists.{and-left, and-right, and-in, filter-from, In-append, In-left, In-right, In-map}
+use Rattle.scattering.proofs.Lists.{and-left, and-right, and-in, filter-from, In-append, In-left, In-right, In-map, not-out}
 use Rattle.scattering.proofs.Keys.{point_eq-same, int_eq-same, int_eq-refl}
+use Rattle.scattering.proofs.WallTests.{not-parallel}
 use Rattle.crossing_theory.proofs.LocalRuns.{passes-holds}
 use Rattle.broken_line_theory.proofs.GenericPoints.{on-own}
 use Rattle.scatter_diagram.specs.Shown.{wall_of, walls_of}
@@ -18,7 +19,7 @@ use Rattle.bend_finder.specs.KeptRuns.{IsSomeRun}
 use Rattle.bend_finder.specs.Runs.{LiveRun, IsOneLine, IsRunOf, AreLiveRunsOf, AreAllLive, OnSome, IsFoundOn, IsPlainOn, all_walls}
 use Rattle.bend_finder.specs.Special.{live_holds, IsCrossedAt, StartsLive}
 use Rattle.bend_finder.proofs.Lines.{line-parallel, parallel-line, all-parallel, same-direction_of, on-same, run-line, run-within, run-has}
-use Rattle.bend_finder.proofs.SpecialPoints.{special-out, crossed-special, starts-special, not-parallel}
+use Rattle.bend_finder.proofs.SpecialPoints.{special-out, crossed-special, starts-special}
 
 -- ---- parts of lists
 
@@ -175,7 +176,7 @@ module _ (ls : List Wall) (rs : List LiveRun) (q : Point) (fs : List CodeWall) (
           let l = and-left (live_holds v q) (not (are_parallel u v)) c.2.1.2 in
           let a = here u c.1 (and-right (is_live u) (is_on u q) c.2.0) in
           let b = here v c.2.1.1 (and-right (is_live v) (is_on v q) l) in
-          not-parallel u v (and-right (live_holds v q) (not (are_parallel u v)) c.2.1.2) (all-parallel g (run-line ls g (h.some u a).0) u a v b)
+          not-parallel u v (not-out (are_parallel u v) (and-right (live_holds v q) (not (are_parallel u v)) c.2.1.2)) (all-parallel g (run-line ls g (h.some u a).0) u a v b)
 
   -- no live ray starts there
   pub found-plain : (StartsLive g q → ⊥) → IsPlainOn ls q g

@@ -1,6 +1,6 @@
 -- Walls along one line, and runs of walls.
-use Rattle.std.proofs.Common.{◌≡◌, ◌≢◌, zero, suc, ◌<◌, ◌≤◌, ◌+◌, refl, sym, ap, subst, ◌∙◌, Bool, true, false, cond, List, [], ◌∷◌, ◌++◌, inl, inr, length, get_or, take, arith, ℕ}
-use Rattle.std.specs.Prelude.{ℤ, pos, negsuc, ◌+ℤ◌, ◌-ℤ◌, ◌*ℤ◌, ◌≤ℤ◌, neg_ℤ, nat_abs, ◌||◌, ◌&&◌, not, int_lt}
+use Rattle.std.proofs.Common.{◌≡◌, zero, suc, ◌<◌, ◌≤◌, ◌+◌, refl, sym, ap, subst, ◌∙◌, Bool, true, false, cond, List, [], ◌∷◌, ◌++◌, inl, inr, length, get_or, take, arith, ℕ}
+use Rattle.std.specs.Prelude.{ℤ, pos, negsuc, ◌+ℤ◌, ◌-ℤ◌, ◌*ℤ◌, ◌≤ℤ◌, neg_ℤ, nat_abs}
 use Rattle.std.specs.Int.{IsGcd}
 use Rattle.std.proofs.lemmas.Int.{ints}
 use Rattle.std.proofs.lemmas.List.{append-nil, take_more, take_all}
@@ -8,15 +8,14 @@ use Rattle.std.proofs.lemmas.List.Concat.{flat_map-append}
 use Rattle.sum_algebra.proofs.Ring.{var, minus, ring}
 use Rattle.sum_algebra.proofs.IntegerRing.{ints_ring, ◌:+◌, ◌:*◌, ◌:-◌, X, Y, Z}
 use Rattle.scattering.specs.Collections.{In, Every}
-use Rattle.scattering.specs.Series.{Exp, origin, det, scale, int_eq, exp_before, exp_eq}
+use Rattle.scattering.specs.Series.{Exp, origin, det, scale, exp_before, exp_eq}
 use Rattle.scattering.specs.Plane.{Point, IsPoint, IsDirection, difference}
 use Rattle.scattering.specs.SupportingLine.{SupportingLine, line_direction, supporting_line, same_line, walls_along}
 use Rattle.scattering.specs.Wall.{Wall, is_on}
 use Rattle.scattering.proofs.Lists.{and-left, Every-append, Every-at, Every-from_In, Every-implies, filter-from, filter-keeps}
 use Rattle.scattering.proofs.Keys.{exp_eq-same, same-exp}
 use Rattle.plane_theory.proofs.Directions.{combination, same-direction, direction-not_origin}
-use Rattle.crossing_theory.proofs.CrossingLaws.{twice-negated}
-use Rattle.crossing_theory.proofs.LocalRuns.{Passes, passes-same, passes-out, on-passes, one-line, size-turned}
+use Rattle.crossing_theory.proofs.LocalRuns.{Passes, passes-same, passes-out, on-passes, one-line, size-turned, turned-line}
 use Rattle.crossing_theory.proofs.SupportingLines.{same_line-flip}
 use Rattle.scatter_diagram.specs.Degrees.{opposite}
 use Rattle.joint_finder.proofs.Lists.{In-get}
@@ -38,22 +37,6 @@ on-its-line d = go (exp_before origin d)
 -- walls along lines of one direction are parallel
 pub line-parallel : (d e : Exp) → line_direction d ≡ line_direction e → det d e ≡ pos 0
 line-parallel d e h = zero-both (line_direction d) d (line_direction e) e (on-its-line d) (on-its-line e) (ap (det (line_direction d)) (sym h) ∙ det-self (line_direction d))
-
-leads : (a b : ℤ) → (a ≡ pos 0 → b ≡ pos 0 → ⊥) → (int_lt (pos 0) (neg_ℤ a) || (int_eq (pos 0) (neg_ℤ a) && int_lt (pos 0) (neg_ℤ b))) ≡ not (int_lt (pos 0) a || (int_eq (pos 0) a && int_lt (pos 0) b))
-leads a b n = grind (arith, ints, n)
-
-opposite-line : (d : Exp) → d ≢ origin → line_direction (opposite d) ≡ line_direction d
-opposite-line d n = go (exp_before origin d) refl
-  where
-    back : opposite (opposite d) ≡ d
-    back = same-exp (opposite (opposite d)) d (twice-negated d.a) (twice-negated d.b)
-
-    flipped : exp_before origin (opposite d) ≡ not (exp_before origin d)
-    flipped = leads d.a d.b (λ p q. n (same-exp d origin p q))
-
-    go : (b : Bool) → exp_before origin d ≡ b → line_direction (opposite d) ≡ cond b d (opposite d)
-    go true e = ap (λ (c : Bool). cond c (opposite d) (opposite (opposite d))) (flipped ∙ ap not e) ∙ back
-    go false e = ap (λ (c : Bool). cond c (opposite d) (opposite (opposite d))) (flipped ∙ ap not e)
 
 -- and parallel walls are along lines of one direction
 module _ (d e : Exp) (h : IsDirection d) (i : IsDirection e) (z : det d e ≡ pos 0) where
@@ -110,7 +93,7 @@ module _ (d e : Exp) (h : IsDirection d) (i : IsDirection e) (z : det d e ≡ po
       go (pos zero) q = absurd (direction-not_origin e i (same-exp e origin (sym first ∙ none q d.a) (sym second ∙ none q d.b)))
       go (pos (suc n)) q = ap line_direction (up (pos (suc n)) q (omega (arith, ints)))
       go (negsuc n) q =
-          sym (opposite-line d (direction-not_origin d h))
+          sym (turned-line d (direction-not_origin d h))
           ∙ ap line_direction (same-direction (opposite d) e opposite-direction i (pos (suc n)) (pos 1) (omega (arith, ints)) (omega (arith, ints))
           (same-exp (scale (pos (suc n)) (opposite d)) (scale (pos 1) e) (against n d.a ∙ sym (ap (λ (m : ℤ). m *ℤ d.a) q) ∙ first ∙ by-one e.a) (against n d.b ∙ sym (ap (λ (m : ℤ). m *ℤ d.b) q) ∙ second ∙ by-one e.b)))
         where

@@ -12,11 +12,10 @@ use Rattle.scattering.specs.Wall.{Wall}
 use Rattle.scattering.specs.BrokenLine.{live_on, product, across, bend_majorant}
 use Rattle.scattering.proofs.Lists.{Every-filter, Every-from_In, filter-from, Every-at, pairs-filter}
 use Rattle.scattering.proofs.Keys.{key_eq-refl, same-exp, same-powers}
-use Rattle.scattering.proofs.Coefficients.{coef-cut, coef-above, low-cut}
+use Rattle.scattering.proofs.Coefficients.{coef-cut, coef-above, low-cut, cut-cut}
 use Rattle.scattering.proofs.Pairing.{pairing, pairing-same}
 use Rattle.scattering.proofs.ShiftedSums.{degree-mul}
 use Rattle.crossing_theory.proofs.LiveWalls.{filter-append}
-use Rattle.completion_theory.proofs.RaisedDiagram.{cut-cut}
 use Rattle.broken_line_theory.proofs.Terms.{IsKept, AllKeys, all-product, all-absolute}
 use Rattle.trunc_series.specs.declared.arithmetic.Arithmetic.TheVariants.{Saturating}
 use Rattle.trunc_series.specs.Shown.{Seen, HasNearTerms, IsSeriesOf}
@@ -27,7 +26,6 @@ use Rattle.trunc_series.proofs.Merging.{Keepable, whole}
 use Rattle.trunc_series.proofs.Rows.{mul-keepable}
 use Rattle.trunc_series.proofs.Congruence.{mul-comm, product-reduced}
 use Rattle.trunc_series.proofs.PowerLaws.{mul-same_to, pow-low, pow-keepable, reduced-keys, one-reduced}
-use Rattle.trunc_series.proofs.Inverses.{pow-reduced}
 use Rattle.trunc_series.proofs.Majorants.{reduced-capped}
 use Rattle.trunc_series.proofs.MajorantLaws.{reduced-of, absolute-positive, majorant-mass}
 use Rattle.scatter_diagram.specs.Proper.{AreTameWalls}
@@ -52,12 +50,6 @@ majorant-product n f g a b p kf kg ha hb hp =
     let positive = mul-keepable Saturating n a.terms b.terms (whole Saturating a.terms ra.keeps) (whole Saturating b.terms rb.keeps) in
     let r = product-reduced Saturating n p.terms a.terms b.terms f g ra rb (reduced-of n p (mul n a.terms b.terms) hp positive) in
     record { order = hp.order; series = hp.series; capped = reduced-capped n p.terms (mul n f g) r }
-
-pub majorant-power : (n i : ℕ) (f : Sum) (a p : Seen) → Keepable Saturating f → IsMajorantOf a n f → IsMajorantOf p n (pow n a.terms i) → IsMajorantOf p n (pow n f i)
-majorant-power n i f a p k ha hp =
-    let ra = reduced-of n a f ha k in
-    let rp = reduced-of n p (pow n a.terms i) hp (pow-keepable Saturating n a.terms (whole Saturating a.terms ra.keeps) i) in
-    record { order = hp.order; series = hp.series; capped = reduced-capped n p.terms (pow n f i) (pow-reduced Saturating n a.terms f ra i p.terms rp) }
 
 -- ---- the functions of walls
 

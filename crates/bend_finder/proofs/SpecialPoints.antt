@@ -8,7 +8,8 @@ use Rattle.scattering.specs.Plane.{Point, IsPoint, IsDirection, Beyond, point_be
 use Rattle.scattering.specs.Wall.{Wall, is_on, is_live, is_line, are_parallel, starts_at}
 use Rattle.scattering.specs.ActivePoint.{is_special, walls_on}
 use Rattle.scattering.proofs.Lists.{and-left, and-right, and-in, any-some, any-true, or-out, or-first, or-second, bool_iff, not-out, filter-from, filter-keeps, In-mapped, In-append}
-use Rattle.scattering.proofs.Keys.{point_eq-same, int_eq-refl}
+use Rattle.scattering.proofs.Keys.{point_eq-same}
+use Rattle.scattering.proofs.WallTests.{not-parallel}
 use Rattle.broken_line_theory.proofs.Crossings.{is-zero-or-not}
 use Rattle.plane_geom.specs.declared.Point.{Point as CodePoint}
 use Rattle.plane_geom.specs.Shown.{point_of}
@@ -84,9 +85,6 @@ special-on_live ws p = bool_iff (is_special (filter is_live ws) p) (is_special w
 
 -- ---- the special points ahead are candidates
 
-pub not-parallel : (u v : Wall) → not (are_parallel u v) ≡ true → det u.dir v.dir ≢ pos 0
-not-parallel u v h z = let e : are_parallel u v ≡ true = rw z (int_eq-refl (pos 0)) in let f = not-out (are_parallel u v) h in cc
-
 module _ (ls : List Wall) (p : Point) (e : Exp) (ps : List CodePoint) (far : Bool) (d : IsDirection e) (h : AreFoundAhead ls p e ps far) where
   -- where no crossing is too far away
   pub special-listed : IsFalse far → (q : Point) → IsPoint q → Beyond p e q → is_special ls q ≡ true → In q (points_of ps)
@@ -103,7 +101,7 @@ module _ (ls : List Wall) (p : Point) (e : Exp) (ps : List CodePoint) (far : Boo
       go : IsCrossedAt ls q ⊎ StartsLive ls q → In q (points_of ps)
       go (inl c) =
           let v = c.2.1 in
-          one c.0 v.0 c.1 c.2.0 v.1 (and-left (live_holds v.0 q) (not (are_parallel c.0 v.0)) v.2) (not-parallel c.0 v.0 (and-right (live_holds v.0 q) (not (are_parallel c.0 v.0)) v.2))
+          one c.0 v.0 c.1 c.2.0 v.1 (and-left (live_holds v.0 q) (not (are_parallel c.0 v.0)) v.2) (not-parallel c.0 v.0 (not-out (are_parallel c.0 v.0) (and-right (live_holds v.0 q) (not (are_parallel c.0 v.0)) v.2)))
           (is-zero-or-not (det c.0.dir e)) (is-zero-or-not (det v.0.dir e))
       go (inr s) =
           let a : s.0.at ≡ q = point_eq-same s.0.at q (and-right (not (is_line s.0.kind)) (point_eq s.0.at q) (and-left (starts_at s.0 q) (is_live s.0) s.2)) in

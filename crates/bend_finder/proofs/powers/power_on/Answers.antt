@@ -3,9 +3,10 @@ use Rattle.scattering.specs.Series.{pow}
 use Rattle.scattering.specs.BrokenLine.{live_on, product}
 use Rattle.plane_geom.specs.Shown.{point_of}
 use Rattle.trunc_series.specs.Capped.{IsMajorantOf}
+use Rattle.trunc_series.proofs.PowerTests.{majorant-power}
 use Rattle.scatter_diagram.specs.Shown.{walls_of}
 use Rattle.bend_finder.specs.Powers.{functions_on}
-use Rattle.bend_finder.proofs.PowerMajorants.{product-near, product-others, walls-tame_all, majorant-power, product-keepable, functions-keepable}
+use Rattle.bend_finder.proofs.PowerMajorants.{product-near, product-others, walls-tame_all, product-keepable, functions-keepable}
 use Rattle.bend_finder.proofs.powers.power_on.Goals as goal
 
 pub power-requires-clause-near : goal.power-requires-clause-near
