@@ -1,26 +1,19 @@
 -- Tails with one more bend: what is left to trace, weights that are told, and the least special point.
-use Rattle.std.proofs.Common.{◌≡◌, ℕ, refl, sym, ap, subst, ◌∙◌, ◌+◌, ◌*◌, ◌-◌, ◌^◌, ◌≤◌, ◌<◌, ◌⊎◌, inl, inr, arith, Bool, true, false, cond, List, [], ◌∷◌, ◌++◌, map, min}
+use Rattle.std.proofs.Common.{◌≡◌, ℕ, refl, sym, ap, subst, ◌∙◌, ◌+◌, ◌*◌, ◌-◌, ◌^◌, ◌≤◌, ◌<◌, ◌⊎◌, inl, inr, arith, Bool, true, false, cond, List, [], ◌∷◌, ◌++◌, min}
 use Rattle.std.specs.Prelude.{IsTrue, Option, Some, None, MatchOption}
 use Rattle.std.proofs.Math.Nat.{mul_assoc}
 use native.Mathlib.Decide.{dec_le}
 use Rattle.limits.specs.Limits.{largest_weight}
-use Rattle.scattering.specs.Collections.{EveryPair, IsLeast}
+use Rattle.scattering.specs.Collections.{IsLeast}
 use Rattle.scattering.specs.Series.{Exp, exp_sub, degree}
 use Rattle.scattering.specs.Plane.{Point, IsPoint, point_before}
 use Rattle.scattering.specs.Wall.{Wall}
 use Rattle.scattering.specs.BrokenLine.{Bend, degrees}
 use Rattle.scattering.specs.Tail.{IsInReach, IsTraced, Tail, last, last_point, tail_weight}
 use Rattle.scattering.specs.Theta.{weights}
-use Rattle.scattering.proofs.Lists.{Every-images}
 use Rattle.plane_theory.proofs.PointOrder.{before-total, before-trans}
 use Rattle.bend_finder.specs.Ahead.{IsToldAs, bend_weight}
 use Rattle.broken_lines.specs.Tracing.{lesser_point}
-
--- ---- lists of images
-
-pub pairs-images : {A B : Type 0} (R : B → B → Type 0) (f : A → B) (xs : List A) → EveryPair (λ x y. R (f x) (f y)) xs → EveryPair R (map f xs)
-pairs-images R f [] h = tt
-pairs-images R f (x ∷ xs) h = (Every-images (R (f x)) f xs h.0, pairs-images R f xs h.1)
 
 -- ---- what is traced
 

@@ -12,13 +12,13 @@ use Rattle.scattering.specs.ActivePoint.{is_special}
 use Rattle.scattering.specs.BrokenLine.{live_on}
 use Rattle.scattering.specs.Tail.{Tail, IsTail, ReachTo, last, last_point, tail_before}
 use Rattle.scattering.specs.Theta.{AskFault, NotGeneric, TooManyTails, PointTooLarge, WeightTooLarge, IsHit, IsMet, IsWeight, weights, TailsFault, is_on_live, IsAskFault}
-use Rattle.scattering.proofs.Lists.{Every-at, Every-append, Every-implies, Every-images, In-map, pairs-append, pairs-implies}
+use Rattle.scattering.proofs.Lists.{Every-at, Every-append, Every-implies, Every-images, In-map, pairs-append, pairs-implies, pairs-images}
 use Rattle.scattering.proofs.Keys.{exp_eq-same}
 use Rattle.bend_finder.specs.Ahead.{IsToldAs}
 use Rattle.broken_lines.specs.Traced.{plain, plain_tails, IsTold, AreAllTails}
 use Rattle.broken_lines.specs.Tracing.{SeenNode, SeenTracing, BeginsLike, IsApart, IsGoodTail, IsGoodNode, IsHitBy, IsMetBySome, Traces}
 use Rattle.broken_lines.proofs.TailOrder.{tail-irrefl, apart-before}
-use Rattle.broken_lines.proofs.OneMoreBend.{pairs-images, least-as}
+use Rattle.broken_lines.proofs.OneMoreBend.{least-as}
 
 -- a list that rises has nothing twice
 pub rising-distinct : (ts : List Tail) → EveryPair (λ s t. IsTrue (tail_before s t)) ts → Distinct ts

@@ -15,7 +15,7 @@ use Rattle.scattering.specs.Plane.{Point}
 use Rattle.scattering.specs.Wall.{Wall, cut_walls}
 use Rattle.scattering.specs.Tail.{Tail, IsTail, IsInReach, IsReachedBy}
 use Rattle.scattering.proofs.Keys.{exp_eq-refl, exp_eq-same, same-exp}
-use Rattle.scattering.proofs.Lists.{Every-from_In, Every-images, In-mapped, filter-from, filter-keeps, not-true, not-out, pairs-filter, pairs-implies}
+use Rattle.scattering.proofs.Lists.{Every-from_In, Every-images, In-mapped, filter-from, filter-keeps, not-true, not-out, pairs-filter, pairs-implies, pairs-images}
 use Rattle.trunc_series.specs.Shown.{exp_of}
 use Rattle.trunc_series.specs.declared.key.Exp.{Exp as CodeExp}
 use Rattle.plane_geom.specs.Shown.{point_of}
@@ -26,7 +26,6 @@ use Rattle.broken_lines.specs.Growth.{exp_cmp, IsSummable, AreSummable}
 use Rattle.broken_lines.specs.Traced.{plain}
 use Rattle.broken_lines.specs.Tracing.{SeenNode, SeenTracing, nothing_traced, pushed, is_root, root_at, roots, IsAskReady, BeginsLike, IsApart, IsGoodNode, Traces, AreTraced}
 use Rattle.broken_lines.proofs.Growths.{known-key, own-place}
-use Rattle.broken_lines.proofs.OneMoreBend.{pairs-images}
 use Rattle.broken_lines.proofs.ReachList.{key-of, entry-value}
 use Rattle.broken_lines.proofs.WithinReach.{reached-small}
 

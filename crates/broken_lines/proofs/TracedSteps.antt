@@ -9,7 +9,7 @@ use Rattle.scattering.specs.Wall.{Wall, cut_walls}
 use Rattle.scattering.specs.BrokenLine.{Bend, degrees}
 use Rattle.scattering.specs.Tail.{Tail, IsTail, IsInReach, IsTraced, last, last_point, tail_weight, tail_before, bend_before}
 use Rattle.scattering.specs.Theta.{IsHit, weights}
-use Rattle.scattering.proofs.Lists.{Every-at, Every-append, Every-from_In, Every-implies, Every-images, In-append, In-left, In-right, In-map, In-mapped, filter-from, filter-keeps, map-append, or-false, or-out, pairs-append, pairs-filter, pairs-implies}
+use Rattle.scattering.proofs.Lists.{Every-at, Every-append, Every-from_In, Every-implies, Every-images, In-append, In-left, In-right, In-map, In-mapped, filter-from, filter-keeps, map-append, or-false, or-out, pairs-append, pairs-filter, pairs-implies, pairs-images}
 use Rattle.trunc_series.specs.Shown.{exp_of}
 use Rattle.plane_geom.specs.Shown.{point_of}
 use Rattle.broken_line_theory.proofs.Bends.{IsTame, bend-reached, cut-walls-tame}
@@ -26,7 +26,7 @@ use Rattle.broken_lines.specs.Traced.{SeenTail, plain, plain_tails}
 use Rattle.broken_lines.specs.Tracing.{AreSummableBends, SeenNode, SeenTracing, child_of, goes_on, children, followed, IsAheadOf, IsAskReady, IsFollowable, BeginsLike, IsApart, IsGoodTail, IsGoodNode, IsHitBy, IsMetBy, IsMetBySome, Traces}
 use Rattle.broken_lines.proofs.Growths.{own-place}
 use Rattle.broken_lines.proofs.TailOrder.{part-children, apart-before, apart-longer, below-before, before-below}
-use Rattle.broken_lines.proofs.OneMoreBend.{pairs-images, traced-rest, traced-end, weight-snoc, weights-snoc, told-plus, told-times, least-joined, least-as}
+use Rattle.broken_lines.proofs.OneMoreBend.{traced-rest, traced-end, weight-snoc, weights-snoc, told-plus, told-times, least-joined, least-as}
 use Rattle.broken_lines.proofs.Pushes.{with_next}
 use Rattle.broken_lines.proofs.WithinReach.{within-reach, reach-within, reached-small, traceable}
 
