@@ -8,7 +8,7 @@ use Rattle.scattering.specs.Series.{Exp, Key, Term, Sum, origin, exp_before, exp
 use Rattle.scattering.proofs.Keys.{exp_eq-same}
 use Rattle.scattering.proofs.KeyOrder.{exp_before-trans}
 use Rattle.scattering.proofs.StrictOrders.{exp_before-asym}
-use Rattle.scattering.proofs.Lists.{or-out, and-left, and-right, Every-right}
+use Rattle.scattering.proofs.Lists.{or-out, and-left, and-right, Every-right, Every-push, pairs-push}
 use Rattle.trunc_series.specs.Shown.{exp_of, sum_of, Seen, IsValid}
 use Rattle.trunc_series.specs.Reduced.{Terms}
 use Rattle.trunc_series.specs.declared.key.Exp.{Exp as CodeExp}
@@ -71,18 +71,6 @@ pub pairs-right : {A : Type 0} (R : A → A → Type 0) (xs ys : List A) → Eve
 pairs-right R [] ys h = h
 pairs-right R (x ∷ xs) ys h = pairs-right R xs ys h.1
 
-pairs-push : {A : Type 0} (R : A → A → Type 0) (xs : List A) (y : A) → EveryPair R xs → Every (λ x. R x y) xs → EveryPair R (xs ++ y ∷ [])
-pairs-push R [] y h k = (tt, tt)
-pairs-push {A = A} R (x ∷ xs) y h k = (push xs h.0, pairs-push R xs y h.1 k.1)
-  where
-    push : (xs : List A) → Every (R x) xs → Every (R x) (xs ++ y ∷ [])
-    push [] h = (k.0, tt)
-    push (z ∷ xs) h = (h.0, push xs h.1)
-
-every-push : {A : Type 0} (P : A → Type 0) (xs : List A) (y : A) → Every P xs → P y → Every P (xs ++ y ∷ [])
-every-push P [] y h k = (k, tt)
-every-push P (x ∷ xs) y h k = (h.0, every-push P xs y h.1 k)
-
 pub parts-none : (k : ℕ) (family : Terms) → ArePartsTo k family 0 []
 parts-none k family = record { family = refl; sorted = tt; each = tt; before = tt }
 
@@ -107,12 +95,12 @@ module _ (k : ℕ) (family : Terms) (i : ℕ) (ps : List (CodeExp × Seen)) (ser
         ∙ ap (λ (x : Sum). family_of ps ++ x) (ap (λ (x : Sum). at_exp (exp_of r) x ++ sum_of (drop i' family)) part.1 ∙ ap (λ (x : Sum). x ++ sum_of (drop i' family)) (with-exp (exp_of r) (t ∷ f) (own, same)) ∙ ap (λ (x : Sum). (t ∷ f) ++ x) rest ∙ sym split)
         ∙ h.family;
     sorted = pairs-push (λ p p'. IsTrue (exp_before (exp_of p.0) (exp_of p'.0))) ps (r, s) h.sorted (heads ps h.before);
-    each = every-push (λ (p : CodeExp × Seen). IsCoefficient k p.1) ps (r, s) h.each record {
+    each = Every-push (λ (p : CodeExp × Seen). IsCoefficient k p.1) ps (r, s) h.each record {
       order = part.0;
       plain = subst (λ (x : Sum). Every (λ t. t.0.exp ≡ origin) x) (sym part.1) (plain-exp (t ∷ f));
       some = λ e. not-none (sym part.1 ∙ e);
     };
-    before = every-push (λ (p : CodeExp × Seen). Every (λ t. IsTrue (exp_before (exp_of p.0) t.0.exp)) (sum_of (drop i' family))) ps (r, s)
+    before = Every-push (λ (p : CodeExp × Seen). Every (λ t. IsTrue (exp_before (exp_of p.0) t.0.exp)) (sum_of (drop i' family))) ps (r, s)
         (tails ps h.before)
         (subst (λ (x : Sum). Every (λ u. IsTrue (exp_before (exp_of r) u.0.exp)) x) (sym rest)
         (later (exp_of r) t f g own (subst (λ (x : Sum). EveryPair (λ t u. IsTrue (key_before t.0 u.0)) x) split rises) next));

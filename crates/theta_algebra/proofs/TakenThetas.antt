@@ -9,7 +9,7 @@ use Rattle.scattering.specs.Plane.{Point, IsPoint}
 use Rattle.scattering.specs.Wall.{Wall, IsWall, cut_walls}
 use Rattle.scattering.specs.Theta.{IsAskFault, IsTheta}
 use Rattle.scattering.specs.ThetaProduct.{BeginsAt}
-use Rattle.scattering.proofs.Lists.{Every-at, Every-from_In, Every-filter, Every-append, Every-implies}
+use Rattle.scattering.proofs.Lists.{Every-at, Every-from_In, Every-filter, Every-append, Every-implies, Every-push, In-left, In-right}
 use Rattle.scattering.proofs.Determined.{coef-own, coef-find}
 use Rattle.scattering.proofs.ShiftedSums.{degree-mul}
 use Rattle.trunc_series.specs.Arithmetic.{IsKeepable}
@@ -33,23 +33,10 @@ pub record IsLeastTo (u : Sum) (r : Exp) (k d : ℕ) : Type 0 where
 pub least-none : (r : Exp) (k : ℕ) → IsLeastTo [] r k k
 least-none r k = record { bound = omega arith; low = tt; found = inl refl }
 
-in-push : (u : Sum) (t v : Term) → In v u → In v (u ++ t ∷ [])
-in-push [] t v i = absurd i
-in-push (w ∷ u) t v (inl e) = inl e
-in-push (w ∷ u) t v (inr i) = inr (in-push u t v i)
-
-in-last : (u : Sum) (t : Term) → In t (u ++ t ∷ [])
-in-last [] t = inl refl
-in-last (w ∷ u) t = inr (in-last u t)
-
-every-push : (P : Term → Type 0) (u : Sum) (t : Term) → Every P u → P t → Every P (u ++ t ∷ [])
-every-push P [] t h p = (p, tt)
-every-push P (v ∷ u) t h p = (h.0, every-push P u t h.1 p)
-
 pub least-more : (u : Sum) (r : Exp) (k d d' : ℕ) (t : Term) → IsLeastTo u r k d → t.0.exp ≡ r → d' ≡ min d (degree t.0) → IsLeastTo (u ++ t ∷ []) r k d'
 least-more u r k d d' t h e m = record {
   bound = at-most d (degree t.0) d' k m h.bound;
-  low = every-push (λ t. t.0.exp ≡ r → d' ≤ degree t.0) u t (Every-implies (λ (v : Term). v.0.exp ≡ r → d ≤ degree v.0) (λ v. v.0.exp ≡ r → d' ≤ degree v.0) u (λ v f g. at-most d (degree t.0) d' (degree v.0) m (f g)) h.low) (λ g. second d (degree t.0) d' m);
+  low = Every-push (λ t. t.0.exp ≡ r → d' ≤ degree t.0) u t (Every-implies (λ (v : Term). v.0.exp ≡ r → d ≤ degree v.0) (λ v. v.0.exp ≡ r → d' ≤ degree v.0) u (λ v f g. at-most d (degree t.0) d' (degree v.0) m (f g)) h.low) (λ g. second d (degree t.0) d' m);
   found = either d (degree t.0) d' m h.found refl;
 }
   where
@@ -67,19 +54,19 @@ least-more u r k d d' t h e m = record {
       where
         go : (d' ≡ d) ⊎ (d' ≡ x) → (d ≡ k) ⊎ ((t : Term) × In t u × (t.0.exp ≡ r) × (degree t.0 ≡ d)) → (d' ≡ k) ⊎ ((v : Term) × In v (u ++ t ∷ []) × (v.0.exp ≡ r) × (degree v.0 ≡ d'))
         go (inl a) (inl b) = inl (a ∙ b)
-        go (inl a) (inr b) = inr (b.0, in-push u t b.0 b.1, b.2, b.3 ∙ sym a)
-        go (inr a) b = inr (t, in-last u t, e, g ∙ sym a)
+        go (inl a) (inr b) = inr (b.0, In-left u (t ∷ []) b.0 b.1, b.2, b.3 ∙ sym a)
+        go (inr a) b = inr (t, In-right u (t ∷ []) t (inl refl), e, g ∙ sym a)
 
 pub least-other : (u : Sum) (r : Exp) (k d : ℕ) (t : Term) → IsLeastTo u r k d → t.0.exp ≢ r → IsLeastTo (u ++ t ∷ []) r k d
 least-other u r k d t h n = record {
   bound = h.bound;
-  low = every-push (λ t. t.0.exp ≡ r → d ≤ degree t.0) u t h.low (λ e. absurd (n e));
+  low = Every-push (λ t. t.0.exp ≡ r → d ≤ degree t.0) u t h.low (λ e. absurd (n e));
   found = go h.found;
 }
   where
     go : (d ≡ k) ⊎ ((t : Term) × In t u × (t.0.exp ≡ r) × (degree t.0 ≡ d)) → (d ≡ k) ⊎ ((v : Term) × In v (u ++ t ∷ []) × (v.0.exp ≡ r) × (degree v.0 ≡ d))
     go (inl e) = inl e
-    go (inr b) = inr (b.0, in-push u t b.0 b.1, b.2, b.3)
+    go (inr b) = inr (b.0, In-left u (t ∷ []) b.0 b.1, b.2, b.3)
 
 pub least-all : (a : Sum) (r : Exp) (k d : ℕ) → IsLeastTo a r k d → (i : ℕ) → IsSeries k a → BeginsAt a r i → d ≡ i
 least-all a r k d h i series begins = go h.found

@@ -1,5 +1,5 @@
 -- The sum of the values of the lines of complete tails, tail by tail, and the theta that it is.
-use Rattle.std.proofs.Common.{◌≡◌, ℕ, refl, sym, ap, subst, ◌∙◌, ◌+◌, ◌<◌, ◌≤◌, ◌^◌, ◌⊎◌, inl, inr, arith, Bool, true, false, List, [], ◌∷◌, ◌++◌, map, take, length, get_or, zero, suc, to_z, of_z, int_eq as test_eq}
+use Rattle.std.proofs.Common.{◌≡◌, ℕ, refl, sym, ap, subst, ◌∙◌, ◌+◌, ◌<◌, ◌≤◌, ◌^◌, ◌⊎◌, inl, inr, arith, Bool, true, false, List, [], ◌∷◌, ◌++◌, map, take, length, get_or, to_z, of_z, int_eq as test_eq}
 use Rattle.std.specs.Prelude.{ℤ, ◌+ℤ◌, nat_abs, None, not, ◌&&◌}
 use Rattle.std.proofs.lemmas.Int.{ints}
 use Rattle.std.proofs.lemmas.Bool.Decides.{Decides-int_eq}
@@ -13,7 +13,7 @@ use Rattle.scattering.specs.Wall.{Wall, IsWall}
 use Rattle.scattering.specs.Tail.{Tail, IsTail, is_complete}
 use Rattle.scattering.specs.Theta.{IsAskFault}
 use Rattle.scattering.proofs.Keys.{int_eq-same, int_eq-refl}
-use Rattle.scattering.proofs.Lists.{bool_iff, not-out, map-append, Every-append, Every-left, Every-right, Every-implies}
+use Rattle.scattering.proofs.Lists.{bool_iff, not-out, map-append, Every-append, Every-left, Every-right, Every-implies, Every-place}
 use Rattle.scattering.proofs.Pairing.{coef-append}
 use Rattle.trunc_series.specs.declared.arithmetic.Arithmetic.TheVariants.{Wrapping}
 use Rattle.trunc_series.specs.Arithmetic.{kept, IsKeepable}
@@ -79,11 +79,6 @@ sum-term ws b m t u f h c e =
     own = λ i. ((ap (λ (w : Term). w.0) e) i, exactly i)
 
 -- ---- one tail more
-
-at-index : {A : Type 0} (P : A → Type 0) (xs : List A) (i : ℕ) (x : A) → i < length xs → x ≡ get_or xs i x → Every P xs → P x
-at-index P [] i x l e h = absurd (omega (arith, l))
-at-index P (y ∷ ys) zero x l e h = subst P (sym e) h.0
-at-index P (y ∷ ys) (suc i) x l e h = at-index P ys i x (omega (arith, l)) e h.1
 
 stands-swap : (f a c : Sum) → StandsFor Wrapping f (a ++ c) → StandsFor Wrapping f (c ++ a)
 stands-swap f a c s = record {
@@ -152,7 +147,7 @@ pub sum-step : (f g : SeenFinder) (m : Exp) (ts : List CodeTail) (i : ℕ) (t : 
     → StandsFor Wrapping old (traced_sum f.walls f.limit m (take i ts)) → StandsFor Wrapping new (line_sum g.walls g.limit m (plain (seen_tail t) ∷ []) ++ old)
     → StandsFor Wrapping new (traced_sum f.walls f.limit m (take (i + 1) ts))
 sum-step f g m ts i t old new e h l p s s' =
-    let a = at-index (λ u. IsLightTail f.walls f.limit m (seen_tail u)) ts i t l p h in
+    let a = Every-place (λ u. IsLightTail f.walls f.limit m (seen_tail u)) ts i t l p h in
     sum-more f.walls f.limit a.walls.0 m a.tail.0 a.walls.1 ts i t old new l p s
     (subst (λ (k : SeenFinder). StandsFor Wrapping new (line_sum k.walls k.limit m (plain (seen_tail t) ∷ []) ++ old)) e s')
 

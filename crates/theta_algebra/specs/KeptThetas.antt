@@ -1,7 +1,7 @@
 -- Thetas that are kept, by exponent.
 --     IsKeptTheta ws q m v      v has the theta of m at q to its order, and its weight; the ask has no fault
 --     AreKeptThetas ws q k      so have all that k keeps
---     Keeps m b w k k'          whatever k keeps at its exponents, k' keeps, and perhaps w at m
+--     KeepsTheta m b w k k'     whatever k keeps at its exponents, k' keeps, and perhaps w at m
 use Rattle.std.specs.Prelude.{◌≡◌, ℕ, List, Some, None}
 use Rattle.std.specs.BTreeMap.{get}
 use Rattle.scattering.specs.Plane.{Point}
@@ -26,5 +26,5 @@ HasTheta k m v = get exp_cmp k.thetas m ≡ Some v
 abbrev pub AreKeptThetas : List Wall → Point → KeptThetas → Type 0
 AreKeptThetas ws q k = (m : CodeExp) (v : KeptTheta) → HasTheta k m v → IsKeptTheta ws q m v
 
-abbrev pub Keeps : CodeExp → ℕ → Seen × ℕ → KeptThetas → KeptThetas → Type 0
-Keeps m b w k k' = (ws : List Wall) (q : Point) → AreKeptThetas ws q k → IsKeptTheta ws q m (record { limit = b; theta = w.0; weight = w.1 }) → AreKeptThetas ws q k'
+abbrev pub KeepsTheta : CodeExp → ℕ → Seen × ℕ → KeptThetas → KeptThetas → Type 0
+KeepsTheta m b w k k' = (ws : List Wall) (q : Point) → AreKeptThetas ws q k → IsKeptTheta ws q m (record { limit = b; theta = w.0; weight = w.1 }) → AreKeptThetas ws q k'

@@ -9,7 +9,7 @@ ghost use Rattle.plane_geom.specs.Shown.{point_of};
 ghost use Rattle.trunc_series.specs.Shown.{exp_of};
 ghost use Rattle.broken_lines.specs.Traced.{IsAskable, IsTailsFault};
 ghost use Rattle.theta_algebra.specs.Thetas.{IsThetaOf};
-ghost use Rattle.theta_algebra.specs.KeptThetas.{AreKeptThetas, Keeps};
+ghost use Rattle.theta_algebra.specs.KeptThetas.{AreKeptThetas, KeepsTheta};
 
 use crate::tracers::Tracers;
 use broken_lines::AskFault;
@@ -44,7 +44,7 @@ impl KeptThetas {
 
     /// Keeps a copy of a theta in the place of what is kept at its exponent.
     fn keep(&mut self, m: Exp, limit: u32, weighed: &(Series, u128)) -> Result<(), AllocError>
-        ensures { Keeps m limit weighed.now self.old self.new }
+        ensures { KeepsTheta m limit weighed.now self.old self.new }
     {
         let theta = weighed.0.copy()?;
         let kept = KeptTheta {
