@@ -1,8 +1,7 @@
 -- The texts of answers, one after the other; there is only one text of them.
 use Rattle.std.proofs.Common.{◌≡◌, ℕ, suc, refl, sym, subst, ap, ◌∙◌, ◌<◌, ◌≤◌, ◌+◌, List, [], ◌∷◌, ◌++◌, length, take, get_or, map, append_assoc, arith}
-use Rattle.std.specs.Prelude.{codes, decimal, Option, Result, Ok, Err}
+use Rattle.std.specs.Prelude.{codes, decimal, Result, Ok, Err}
 use Rattle.std.proofs.lemmas.List.{take_more, take_all, append-nil, length-take-le}
-use Rattle.scattering.specs.Stops.{StopCause}
 use Rattle.scattering.specs.Theta as D
 use Rattle.plane_geom.specs.Shown.{point_of}
 use Rattle.broken_lines.specs.declared.fault.AskFault.{AskFault}
@@ -15,7 +14,7 @@ use Rattle.theta_algebra.specs.Laws.{PlainFault, TooEarly, Found, NoMemory, plai
 use Rattle.scatter_text.specs.Grammar.{coordinate_text}
 use Rattle.scatter_text.specs.DiagramText.{line_of}
 use Rattle.scatter_text.specs.Laws.{AnswersTextIsOne}
-use Rattle.scatter_text.specs.AnswersText.{IsPointWords, IsFaultWords, series_text, family_text, IsResultText, answer_text, IsAnswerText, AreAnswerTexts, stopped_text, answers_heading, IsAnswersText}
+use Rattle.scatter_text.specs.AnswersText.{IsPointWords, IsFaultWords, series_text, family_text, IsResultText, answer_text, IsAnswerText, AreAnswerTexts, stopped_text, answers_heading}
 use Rattle.scatter_text.proofs.OneDiagramText.{coordinate-one}
 
 -- ---- one more

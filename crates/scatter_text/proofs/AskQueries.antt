@@ -1,6 +1,6 @@
 -- The asks of a file within the limits, and the one query that each stands for.
 use Rattle.std.proofs.Common.{◌≡◌, ℕ, suc, refl, sym, ap, subst, ◌∙◌, ◌<◌, ◌≤◌, ◌*◌, ◌+◌, false, ◌||◌, List, [], ◌∷◌, ◌++◌, length, take, get_or, arith}
-use Rattle.std.specs.Prelude.{ℤ, pos, ◌≤ℤ◌, nat_abs, nat_lt, All, Option, Some, None}
+use Rattle.std.specs.Prelude.{ℤ, pos, ◌≤ℤ◌, nat_abs, All, Option, Some, None}
 use Rattle.std.specs.List.{AllZip, list_any}
 use Rattle.std.proofs.lemmas.List.{take_more, take_all}
 use Rattle.std.proofs.lemmas.List.Elements.{All-nil, All-cons}

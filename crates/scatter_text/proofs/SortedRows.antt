@@ -14,7 +14,7 @@ use Rattle.std.proofs.lemmas.List.Sorted.{sum_by-IsPermutation}
 use Rattle.scattering.specs.Collections.{Every}
 use Rattle.scattering.specs.Series.{Powers, Key, Term, Sum, Same, coef, key_eq, powers_before}
 use Rattle.scattering.proofs.Keys.{key_eq-same, key_eq-refl}
-use Rattle.scattering.proofs.KeyOrder.{key_before-same, powers_before-asym, powers_before-trans}
+use Rattle.scattering.proofs.KeyOrder.{powers_before-asym, powers_before-trans, powers_before-same, same-step, trans-step, asym-step}
 use Rattle.scattering.proofs.DistinctKeys.{HasDistinctKeys}
 use Rattle.trunc_series.specs.Shown.{powers_of}
 use Rattle.trunc_series.proofs.KeyOrder.{cmp-order}
@@ -34,32 +34,13 @@ rank_before x y = nat_lt x.0 y.0 || ((x.0 == y.0) && powers_before x.1 y.1)
 abbrev rank_of : PrintedRow → Rank
 rank_of r = (r.j, powers_of r.powers)
 
-same-powers : (p q : Powers) → powers_before p q ≡ false → powers_before q p ≡ false → p ≡ q
-same-powers p q h k = ap (λ (x : Key). x.powers) (key_before-same (record { powers = p; exp = record { a = pos 0; b = pos 0 } }) (record { powers = q; exp = record { a = pos 0; b = pos 0 } }) h k)
-
-irrefl : (j : ℕ) (b : Bool) → (b ≡ true → ⊥) → (nat_lt j j || ((j == j) && b)) ≡ true → ⊥
-irrefl j true n h = n refl
-irrefl j false n h = grind (arith, nat_tests)
-
-trans : (i j k : ℕ) (a b c : Bool) → (a ≡ true → b ≡ true → c ≡ true) → (nat_lt i j || ((i == j) && a)) ≡ true → (nat_lt j k || ((j == k) && b)) ≡ true → (nat_lt i k || ((i == k) && c)) ≡ true
-trans i j k true true c t h l = rw (t refl refl) (grind (arith, nat_tests))
-trans i j k true false c t h l = grind (arith, nat_tests)
-trans i j k false true c t h l = grind (arith, nat_tests)
-trans i j k false false c t h l = grind (arith, nat_tests)
-
-tied : (i j : ℕ) (a b : Bool) → (nat_lt i j || ((i == j) && a)) ≡ false → (nat_lt j i || ((j == i) && b)) ≡ false → (i ≡ j) × (a ≡ false) × (b ≡ false)
-tied i j true true h k = absurd (grind (arith, nat_tests))
-tied i j true false h k = absurd (grind (arith, nat_tests))
-tied i j false true h k = absurd (grind (arith, nat_tests))
-tied i j false false h k = (grind (arith, nat_tests), refl, refl)
-
 pub same-rank : (x y : Rank) → rank_before x y ≡ false → rank_before y x ≡ false → x ≡ y
-same-rank x y h k = let t = tied x.0 y.0 _ _ h k in let p = same-powers x.1 y.1 t.1 t.2 in λ i. (t.0 i, p i)
+same-rank x y h k = let t = same-step x.0 y.0 _ _ h k in let p = powers_before-same x.1 y.1 t.1 t.2 in λ i. (t.0 i, p i)
 
 pub rows-ordered : IsTotalOrder printed_order
 rows-ordered =
-    seen-total (λ (x : Rank). Unit {0}) rank_before (λ x u. irrefl x.0 _ (λ h. powers_before-asym x.1 x.1 h h))
-    (λ x y z u v w. trans x.0 y.0 z.0 _ _ _ (powers_before-trans x.1 y.1 z.1)) (λ x y u v. same-rank x y) rank_of (λ r. tt)
+    seen-total (λ (x : Rank). Unit {0}) rank_before (λ x u h. let s = asym-step x.0 x.0 _ _ h h in powers_before-asym x.1 x.1 s.0 s.1)
+    (λ x y z u v w h k. trans-step x.0 y.0 z.0 _ _ _ h k (powers_before-trans x.1 y.1 z.1)) (λ x y u v. same-rank x y) rank_of (λ r. tt)
 
 step : (i j : ℕ) (o : Ordering) (b c : Bool) → o ≡ cond b Less (cond c Greater Equal) → ordering_then (nat_cmp i j) o ≡ cond (nat_lt i j || ((i == j) && b)) Less (cond (nat_lt j i || ((j == i) && c)) Greater Equal)
 step i j o b c e = grind (arith, nat_tests, e)
