@@ -1,5 +1,5 @@
 -- What a reader answers is what the order machine says.
-use Rattle.std.proofs.Common.{◌≡◌, ℕ, ◌≤◌, max, Bool, true, false, cond, List, [], ◌∷◌, ◌++◌, Option, Some, None, Result, Ok, Err, IfSome, refl, sym, ap, ◌∙◌, subst, le_refl, zero-le, arith}
+use Rattle.std.proofs.Common.{◌≡◌, ℕ, ◌≤◌, max, Bool, true, false, cond, List, [], ◌∷◌, ◌++◌, Option, Some, None, Result, Ok, Err, IfSome, refl, sym, ap, ◌∙◌, subst, zero-le, arith}
 use Rattle.std.specs.Prelude.{nat_lt, unwrap_or}
 use Rattle.std.specs.Bool.{MatchBool}
 use Rattle.std.proofs.lemmas.Bool.{le-ltb}
@@ -8,7 +8,6 @@ use Rattle.scattering.specs.Wall.{Wall}
 use Rattle.scattering.specs.Plane.{Point}
 use Rattle.order_machine.specs.declared.event.Event.{Event}
 use Rattle.order_machine.specs.declared.event.Event.TheVariants.{Pin, Ask}
-use Rattle.order_machine.specs.declared.event.Reply.{Reply as MachineReply}
 use Rattle.order_machine.specs.declared.event.Reply.TheVariants as machine
 use Rattle.order_machine.specs.History.{newest_of, pinned_by, seen_by, reply_to, reply_to_ask}
 use Rattle.order_machine.proofs.Counts.{seen_more, pinned_more}
@@ -22,7 +21,7 @@ use Rattle.theta_algebra.specs.declared.query.Query.{Query}
 use Rattle.theta_algebra.specs.declared.query.Reply.{Reply}
 use Rattle.theta_algebra.specs.declared.query.Answer.{Answer}
 use Rattle.theta_algebra.specs.Answering.{is_early, IsResult, IsAnswer}
-use Rattle.diagram_reader.specs.Machine.{machine_reply, IsAskOf, IsAsk}
+use Rattle.diagram_reader.specs.Machine.{machine_reply, IsAskOf, IsMachineAsk}
 
 -- no least order is the least order 0
 early_below : (k : ℕ) (least : Option ℕ) → nat_lt k (unwrap_or least 0) ≡ is_early k least
@@ -55,7 +54,7 @@ pinned_now r h = pinned_more r h (Pin r) ∙ ap (λ b. cond b (Some (newest_of h
 seen_now : (r : ℕ) (h : List Event) → seen_by r (h ++ Pin r ∷ []) ≡ max (seen_by r h) (newest_of h)
 seen_now r h = seen_more r h (Pin r) ∙ ap (λ b. max (seen_by r h) (cond b (newest_of h) 0)) (same_number r)
 
-pub asks : (ws : List Wall) (seen : ℕ) (q : Query) (a : Answer) → seen ≤ a.order → IsAnswer ws a.order q a → IsAsk seen q.least a
+pub asks : (ws : List Wall) (seen : ℕ) (q : Query) (a : Answer) → seen ≤ a.order → IsAnswer ws a.order q a → IsMachineAsk seen q.least a
 asks ws seen q a up is r h at old =
     let least = unwrap_or q.least 0 in
     let asked : reply_to (h ++ Pin r ∷ []) (Ask r least) ≡ reply_to_ask a.order least = ap (λ o. reply_to_ask (unwrap_or o 0) least) (pinned_now r h) ∙ ap (λ n. reply_to_ask n least) at in
@@ -65,5 +64,5 @@ asks ws seen q a up is r h at old =
     IfSome_then (machine_reply a.order a.result) (replies ws a.order q.kind (point_of q.at) (is_early a.order q.least) a.result is.result) (λ reply e. record { pins = ap (λ n. machine.Pinned n) at; seen = shown; replies = asked ∙ (early ∙ e) })
 
 -- of want of memory nothing is said
-pub refuses : (seen : ℕ) (least : Option ℕ) (a : Answer) → a.result ≡ Err Memory → IsAsk seen least a
+pub refuses : (seen : ℕ) (least : Option ℕ) (a : Answer) → a.result ≡ Err Memory → IsMachineAsk seen least a
 refuses seen least a is r h at old = subst (λ x. IfSome (machine_reply a.order x) (IsAskOf r h (unwrap_or least 0) a.order)) (sym is) tt

@@ -1,6 +1,6 @@
 -- What a reader of published orders answers.
 --     IsAnswerAmong lines q a    a answers q in the completion of these lines at its order, and there is only one
---     IsRefused seen a           no order was pinned: a has the order that was seen, and wants memory
+--     IsUnpinned seen a          no order was pinned: a has the order that was seen, and wants memory
 --     IsReplyTo e q a            what a reader of the lines of e, which has seen the order of e, answers
 use Rattle.std.specs.Prelude.{◌≡◌, ℕ, ◌⊎◌, Err}
 use Rattle.scattering.specs.Wall.{Diagram, walls}
@@ -20,8 +20,8 @@ pub record IsAnswerAmong (lines : SeenInitial) (q : Query) (a : Answer) : Type 0
   pub only : (e : Diagram) → IsCompletion lines.lines a.order e → e ≡ diagram
   pub answer : IsAnswer (walls diagram) a.order q a
 
-abbrev pub IsRefused : ℕ → Answer → Type 0
-IsRefused seen a = (a.order ≡ seen) × (a.result ≡ Err Memory)
+abbrev pub IsUnpinned : ℕ → Answer → Type 0
+IsUnpinned seen a = (a.order ≡ seen) × (a.result ≡ Err Memory)
 
 abbrev pub IsReplyTo : SeenEpoch → Query → Answer → Type 0
-IsReplyTo e q a = IsAnswerAmong e.lines q a ⊎ IsRefused e.order a
+IsReplyTo e q a = IsAnswerAmong e.lines q a ⊎ IsUnpinned e.order a

@@ -1,7 +1,7 @@
 -- How an ask stands to the order machine, whose events so far are h.
 --     machine_reply k result    what the machine replies where `result` is answered in the order k; nothing is said of want
 --                               of memory, which the machine doesn't have
---     IsAsk seen least a        where the order of a is newest and the reader has seen `seen`, the machine lets it pin that
+--     IsMachineAsk seen least a where the order of a is newest and the reader has seen `seen`, the machine lets it pin that
 --                               order, which it then has seen, and replies to its ask as a says
 use Rattle.std.specs.Prelude.{◌≡◌, ℕ, List, [], ◌∷◌, ◌++◌, Option, Some, None, Result, Ok, Err, IfSome, unwrap_or}
 use Rattle.order_machine.specs.declared.event.Event.{Event}
@@ -30,6 +30,6 @@ pub record IsAskOf (r : ℕ) (h : List Event) (least : ℕ) (order : ℕ) (reply
   pub seen : seen_by r (h ++ Pin r ∷ []) ≡ order
   pub replies : reply_to (h ++ Pin r ∷ []) (Ask r least) ≡ reply
 
-abbrev pub IsAsk : ℕ → Option ℕ → Answer → Type 0
-IsAsk seen least a = (r : ℕ) (h : List Event) → newest_of h ≡ a.order → seen_by r h ≡ seen
+abbrev pub IsMachineAsk : ℕ → Option ℕ → Answer → Type 0
+IsMachineAsk seen least a = (r : ℕ) (h : List Event) → newest_of h ≡ a.order → seen_by r h ≡ seen
     → IfSome (machine_reply a.order a.result) (IsAskOf r h (unwrap_or least 0) a.order)

@@ -4,8 +4,8 @@ ghost use Rattle.std.specs.Prelude.{◌≡◌, ◌≤◌};
 ghost use Rattle.order_epochs.specs.Seen.{learned};
 ghost use Rattle.order_epochs.specs.Machine.{IsLearn};
 ghost use Rattle.theta_algebra.specs.Answering.{IsQuery};
-ghost use Rattle.diagram_reader.specs.Asked.{IsReplyTo, IsRefused};
-ghost use Rattle.diagram_reader.specs.Machine.{IsAsk};
+ghost use Rattle.diagram_reader.specs.Asked.{IsReplyTo, IsUnpinned};
+ghost use Rattle.diagram_reader.specs.Machine.{IsMachineAsk};
 
 use broken_lines::AskFault;
 use order_epochs::{EpochReader, Told};
@@ -31,7 +31,7 @@ impl Model for DiagramReader {
 
 /// What is answered where no order can be pinned.
 fn refused(seen: u32) -> Answer
-    ensures { IsRefused seen result }
+    ensures { IsUnpinned seen result }
 {
     Answer {
         order: seen,
@@ -78,7 +78,7 @@ impl DiagramReader {
         ensures seen { result.0.order ≡ result.1.order }
         ensures order { self.order ≤ result.1.order }
         ensures answer { IsReplyTo self query.now result.1 }
-        ensures machine { IsAsk self.order query.now.least result.1 }
+        ensures machine { IsMachineAsk self.order query.now.least result.1 }
     {
         match self.reader.pin() {
             Ok(pinned) => {
