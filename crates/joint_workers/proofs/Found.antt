@@ -1,6 +1,6 @@
 -- What the workers found: what stopped one of them, or the corrections in the order of the points.
-use Rattle.std.proofs.Common.{◌≡◌, ◌⊎◌, inl, inr, ℕ, ◌≤◌, refl, sym, subst, List, [], ◌∷◌, length, map, Some, Ok, Err, slice_get}
-use Rattle.std.specs.Prelude.{All, Contains, Result, IfOk}
+use Rattle.std.proofs.Common.{◌≡◌, ◌⊎◌, inl, inr, ℕ, ◌≤◌, refl, sym, subst, List, [], ◌∷◌, length, map, Ok, Err, slice_get}
+use Rattle.std.specs.Prelude.{All, Contains, Result}
 use Rattle.std.specs.List.{AllZip}
 use Rattle.limits.specs.Limits.{largest_weight}
 use Rattle.scattering.specs.Wall.{walls}
@@ -12,7 +12,7 @@ use Rattle.scatter_diagram.specs.Listed.{SeenDiagram}
 use Rattle.scatter_diagram.specs.declared.stop.Stop.{Stop}
 use Rattle.scatter_diagram.specs.declared.stop.Stop.TheVariants.{Memory}
 use Rattle.scatter_step.specs.Orders.{AreCorrectionsAt, IsStoppedByPoint}
-use Rattle.joint_board.specs.Seen.{ShownBoard, SeenSeat, SeenKept, new_seats, results_of, AreInOrder}
+use Rattle.joint_board.specs.Seen.{ShownBoard, SeenSeat, SeenKept, new_seats, AreInOrder}
 use Rattle.joint_board.proofs.Found as kept
 use Rattle.joint_board.proofs.Found.{AreAllKept, zip-beside, all-kept}
 use Rattle.joint_workers.specs.Tasks.{Corrected, IsCorrected, IsFoundBy, AreAllFound}

@@ -1,17 +1,16 @@
 -- An order has fewer tasks than a board may have: each is where two walls cross, and two walls that aren't parallel cross once.
 use Rattle.std.proofs.Common.{◌≡◌, ◌≢◌, ◌⊎◌, inl, inr, ℕ, suc, ◌+◌, ◌*◌, ◌<◌, ◌≤◌, refl, sym, ap, subst, ◌∙◌, List, [], ◌∷◌, length, map, true, false, arith}
-use Rattle.std.specs.Prelude.{IsTrue, ℤ, pos, flat_map}
+use Rattle.std.specs.Prelude.{IsTrue, flat_map}
 use Rattle.std.proofs.Math.Nat.{mul-le-mul_left, mul-le-mul_right}
 use Rattle.std.proofs.lemmas.List.{length-map, length-append}
 use Rattle.limits.specs.Limits.{highest_order, most_walls}
 use Rattle.order_machine.specs.History.{tasks_end}
 use Rattle.scattering.specs.Collections.{In, Every, Distinct}
-use Rattle.scattering.specs.Series.{int_eq, det}
-use Rattle.scattering.specs.Plane.{Point, IsPoint, difference}
+use Rattle.scattering.specs.Plane.{Point, IsPoint}
 use Rattle.scattering.specs.Wall.{Line, Outgoing, Wall, IsWall, walls, is_on, are_parallel, cut_wall}
 use Rattle.scattering.specs.ActivePoint.{is_active, is_incoming}
-use Rattle.scattering.proofs.Lists.{and-left, Every-at, Every-append, Every-implies, Every-images, In-flat_map, In-mapped}
-use Rattle.scattering.proofs.Keys.{int_eq-same}
+use Rattle.scattering.proofs.Lists.{Every-at, Every-append, Every-implies, Every-images, In-flat_map, In-mapped}
+use Rattle.scattering.proofs.WallTests.{on-line, not-parallel}
 use Rattle.plane_theory.proofs.CommonPoints.{common-unique}
 use Rattle.completion_theory.proofs.ActivePoints.{CrossesAt, EntersAt, active-out}
 use Rattle.plane_geom.specs.Shown.{point_of}
@@ -87,15 +86,9 @@ record CrossAt (p : Point) (w : Wall × Wall) : Type 0 where
   first : is_on w.0 p ≡ true
   second : is_on w.1 p ≡ true
 
-on-line : (w : Wall) (p : Point) → is_on w p ≡ true → det w.dir (difference w.at p) ≡ pos 0
-on-line w p e = int_eq-same _ (pos 0) (and-left (int_eq (det w.dir (difference w.at p)) (pos 0)) _ e)
-
-crosses : (u v : Wall) → are_parallel u v ≡ false → det u.dir v.dir ≢ pos 0
-crosses u v e z = let t : are_parallel u v ≡ true = subst (λ (c : ℤ). int_eq c (pos 0) ≡ true) (sym z) refl in absurd (cc)
-
 cross-once : (p q : Point) (w : Wall × Wall) → CrossAt p w → CrossAt q w → p ≡ q
 cross-once p q w h k =
-    common-unique w.0.at w.0.dir w.1.at w.1.dir p q h.starts.0 h.starts.1 (crosses w.0 w.1 h.across)
+    common-unique w.0.at w.0.dir w.1.at w.1.dir p q h.starts.0 h.starts.1 (not-parallel w.0 w.1 h.across)
     (record { point = h.point; first = on-line w.0 p h.first; second = on-line w.1 p h.second })
     (record { point = k.point; first = on-line w.0 q k.first; second = on-line w.1 q k.second })
 
