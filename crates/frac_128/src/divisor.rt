@@ -10,6 +10,24 @@ pub fn gcd(a: u128, b: u128) -> u128
 {
     let mut x = a;
     let mut y = b;
+    // a processor divides numbers of 64 bits many times faster
+    while y > u64::MAX as u128 {
+        let rest = x % y;
+        x = y;
+        y = rest;
+    }
+    if y == 0 {
+        return x;
+    }
+    short_gcd(y as u64, (x % y) as u64) as u128
+}
+
+/// That of numbers of 64 bits.
+fn short_gcd(a: u64, b: u64) -> u64
+    ensures { IsGcd a b result }
+{
+    let mut x = a;
+    let mut y = b;
     while y != 0 {
         let rest = x % y;
         x = y;
