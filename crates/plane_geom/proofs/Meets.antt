@@ -90,6 +90,12 @@ module _ (s t : Support) (n : det (support_dir s) (support_dir t) ≢ pos 0) whe
       go (inr (inl l)) = let r = reduce x y w l in (r.point, (r.is, r.first, r.second))
       go (inr (inr l)) = let r = reduce (pos 0 -ℤ x) (pos 0 -ℤ y) (pos 0 -ℤ w) (omega (arith, ints, l)) in (r.point, quotient-turned x y w r.point (r.is, r.first, r.second))
 
+  pub met-somewhere : FirstHolds → SecondHolds → (q : Point) × IsPoint q × OnSupport s q × OnSupport t q
+  met-somewhere a b =
+      let e = exists (meet_x (support_at s) (support_dir s) (support_at t) (support_dir t)) (meet_y (support_at s) (support_dir s) (support_at t) (support_dir t)) (meet_w (support_at s) (support_dir s) (support_at t) (support_dir t)) (not-zero _ _ _ (weight s) (weight t) n) in
+      let o = met-on e.0 e.1 a b in
+      (e.0, e.1.0, o.0, o.1)
+
   pub far-on : ((q : Point) → IsMet q → IsNear q → ⊥) → FirstHolds → SecondHolds → (q : Point) × IsPoint q × OnSupport s q × OnSupport t q × (IsNear q → ⊥)
   far-on f a b =
       let e = exists (meet_x (support_at s) (support_dir s) (support_at t) (support_dir t)) (meet_y (support_at s) (support_dir s) (support_at t) (support_dir t)) (meet_w (support_at s) (support_dir s) (support_at t) (support_dir t)) (not-zero _ _ _ (weight s) (weight t) n) in

@@ -83,6 +83,10 @@ IsMeeting s t Outside = (det (support_dir s) (support_dir t) ≢ pos 0) × ((q :
 IsMeeting s t TooFar = (det (support_dir s) (support_dir t) ≢ pos 0) × ((q : Point) × IsPoint q × OnSupport s q × OnSupport t q × (IsNear q → ⊥))
 IsMeeting s t (At p) = (det (support_dir s) (support_dir t) ≢ pos 0) × OnSupport s (point_of p) × OnSupport t (point_of p)
 
+-- the supports aren't parallel and have a point in common
+abbrev pub DoMeet : Support → Support → Type 0
+DoMeet s t = (det (support_dir s) (support_dir t) ≢ pos 0) × ((q : Point) × IsPoint q × OnSupport s q × OnSupport t q)
+
 -- a half-line holds what lies at n/t or later along its line where n/t is at least 0
 abbrev pub HoldsAt : Support → ℤ → ℤ → Type 0
 HoldsAt (Line p d) n t = ⊤

@@ -11,7 +11,7 @@ use crate::products::small_product;
 use std::cmp::Ordering;
 
 /// The determinant of two directions.
-pub(crate) fn det(d: &Direction, e: &Direction) -> i64
+pub fn det(d: &Direction, e: &Direction) -> i64
     ensures value { result ≡ det (vector_of d.now) (vector_of e.now) }
     ensures bound { nat_abs result ≤ 2 ^ 25 }
 {

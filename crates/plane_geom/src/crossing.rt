@@ -3,7 +3,7 @@
 ghost use Rattle.std.specs.Prelude.{◌≡◌, ◌≢◌, ◌↔◌, ◌≤◌, ◌^◌, ◌≤ℤ◌, ◌*ℤ◌, pos, nat_abs, IsTrue};
 ghost use Rattle.scattering.specs.Series.{det};
 ghost use Rattle.scattering.specs.Plane.{difference};
-ghost use Rattle.plane_geom.specs.Shown.{vector_of, point_of, support_at, support_dir, HoldsAt, IsCommon, IsMeeting};
+ghost use Rattle.plane_geom.specs.Shown.{vector_of, point_of, support_at, support_dir, HoldsAt, IsCommon, IsMeeting, DoMeet};
 
 use crate::angle::det;
 use crate::products::{grown, minor, product, scaled, shifted};
@@ -27,6 +27,19 @@ pub fn meet(s: &Support, t: &Support) -> Meeting
         Some(q) => Meeting::At(q),
         None => Meeting::TooFar,
     }
+}
+
+/// Whether `meet` answers a point, near or too far: by signs alone.
+pub fn do_meet(s: &Support, t: &Support) -> bool
+    ensures { IsTrue result ↔ DoMeet s.now t.now }
+{
+    let (p, d) = whole_line(s);
+    let (r, e) = whole_line(t);
+    let turn = det(d, e);
+    if turn == 0 {
+        return false;
+    }
+    holds(s, numerator(p, r, e), turn) && holds(t, numerator(r, p, d), -turn)
 }
 
 /// A point and the direction of the support's whole line.

@@ -13,10 +13,10 @@ mod crossing;
 mod places;
 mod products;
 
-pub use angle::angle_cmp;
-pub use crossing::{meet, whole_line};
+pub use angle::{angle_cmp, det};
+pub use crossing::{do_meet, meet, whole_line};
 pub use places::{on, side};
-pub use products::minor;
+pub use products::{minor, small_product};
 
 /// The point (x/w, y/w), in lowest terms with w at least 1, each number at most 2^40 in absolute
 /// value.

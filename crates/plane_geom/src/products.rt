@@ -66,7 +66,7 @@ pub(crate) fn shifted(a: i128, t: i64, n: i128, d: i32) -> i128
 }
 
 /// A product of two numbers of directions.
-pub(crate) fn small_product(a: i32, b: i32) -> i64
+pub fn small_product(a: i32, b: i32) -> i64
     requires a { nat_abs a ≤ largest_direction }
     requires b { nat_abs b ≤ largest_direction }
     ensures value { result ≡ a *ℤ b }
