@@ -18,7 +18,7 @@ use Rattle.bend_finder.specs.Ahead.{IsToldAs, IsHitAhead, IsSpecialAhead, IsBend
 use Rattle.bend_finder.specs.declared.bend.Bend.{Bend as CodeBend}
 use Rattle.bend_finder.specs.Live.{live_cut}
 use Rattle.bend_finder.specs.Runs.{LiveRun, AreLiveRunsOf, OnSome, HasLiveOn, all_walls}
-use Rattle.bend_finder.specs.Crossings.{CrossesSome, AreCandidates}
+use Rattle.bend_finder.specs.Crossings.{CrossesSome, AreFoundAhead}
 use Rattle.bend_finder.specs.Bends.{IsTurn, AreBends, IsFirstSpecial}
 use Rattle.bend_finder.proofs.LiveCut.{live-on_live}
 use Rattle.bend_finder.proofs.Lines.{runs-within}
@@ -87,7 +87,7 @@ module _ (ws : List Wall) (b : ℕ) (proper : Every (IsWall b) (live_cut b ws)) 
       itself : (n : ℕ) → n ≤ n
       itself n = omega arith
 
-  module _ (p : Point) (e x : Exp) (along : IsMultiple e x) (primitive : IsDirection e) (most : ℕ) (low : most ≤ b) (ps : List CodePoint) (far : Bool) (h : AreCandidates ls p e ps far) where
+  module _ (p : Point) (e x : Exp) (along : IsMultiple e x) (primitive : IsDirection e) (most : ℕ) (low : most ≤ b) (ps : List CodePoint) (far : Bool) (h : AreFoundAhead ls p e ps far) where
     -- crossings
     crossed-hit : (q : Point) → CrossesSome ls p e q → IsHitAhead ws b p x q
     crossed-hit q c = (
@@ -108,11 +108,11 @@ module _ (ws : List Wall) (b : ℕ) (proper : Every (IsWall b) (live_cut b ws)) 
     bend-in : (c : Bend) → In c.at (points_of ps) → IsTurn most ls x c → IsBendAhead ws b p x most c
     bend-in c i t = (
       record {
-        ahead = beyond-longer p e x c.at along (h.found.each c.at i).1;
+        ahead = beyond-longer p e x c.at along (h.each c.at i).1;
         near = near-in c.at i;
         plain = sym (same-special c.at) ∙ t.plain;
         bend = record {
-          point = (h.found.each c.at i).0;
+          point = (h.each c.at i).0;
           degree = t.some;
           key = λ z. t.key (sym (bend-lower most b low ls c.at x c.key t.most) ∙ ap (λ f. coef f c.key) (same-majorant c.at x) ∙ z);
         };
@@ -126,7 +126,7 @@ module _ (ws : List Wall) (b : ℕ) (proper : Every (IsWall b) (live_cut b ws)) 
         let key : coef (bend_majorant b ls c.at x) c.key ≢ pos 0 = λ z. k.0.bend.key (sym (ap (λ f. coef f c.key) (same-majorant c.at x)) ∙ z) in
         let w = bend-wall b ls c.at x c.key tame plain k.0.bend.degree key in
         let o = live-out ls c.at w.wall w.on in (
-          h.found.crossings c.at (w.wall, o.0, (k.0.bend.point, beyond-shorter p e x c.at along k.0.ahead, o.2, crosses-shorter w.wall.dir e x along w.crosses)) k.0.near,
+          h.crossings c.at (w.wall, o.0, (k.0.bend.point, beyond-shorter p e x c.at along k.0.ahead, o.2, crosses-shorter w.wall.dir e x along w.crosses)) k.0.near,
           record { some = k.0.bend.degree; most = k.1; plain = plain; key = λ z. key (bend-lower most b low ls c.at x c.key k.1 ∙ z) },
         )
 
@@ -157,9 +157,9 @@ module _ (ws : List Wall) (b : ℕ) (proper : Every (IsWall b) (live_cut b ws)) 
       };
       sorted = k.sorted;
       weights = Every-from_In (λ d. IsToldAs (bend_weight ws b x d.0) d.1) (bends_of bs) weight;
-      far = λ t. let c = h.found.far t in (c.0, crossed-hit c.0 c.1, c.2);
-      near = λ t q c. h.found.near t q (hit-crossed q c);
-      special = λ t. special-as o (least-special ls p e ps far primitive h.found t o f);
+      far = λ t. let c = h.far t in (c.0, crossed-hit c.0 c.1, c.2);
+      near = λ t q c. h.near t q (hit-crossed q c);
+      special = λ t. special-as o (least-special ls p e ps far primitive h t o f);
     }
       where
         weight : (d : Bend × ℕ) → In d (bends_of bs) → IsToldAs (bend_weight ws b x d.0) d.1

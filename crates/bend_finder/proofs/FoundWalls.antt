@@ -16,7 +16,7 @@ use Rattle.broken_line_theory.proofs.GenericPoints.{on-own}
 use Rattle.scatter_diagram.specs.Shown.{wall_of, walls_of}
 use Rattle.scatter_diagram.specs.declared.wall.Wall.{Wall as CodeWall}
 use Rattle.bend_finder.specs.KeptRuns.{IsSomeRun}
-use Rattle.bend_finder.specs.Runs.{LiveRun, IsOneLine, IsRunOf, AreLiveRunsOf, AreAllLive, OnSome, IsFoundOn, IsPlainOn, all_walls}
+use Rattle.bend_finder.specs.Runs.{LiveRun, IsOneLine, IsRunOf, AreAllLive, OnSome, IsFoundOn, IsPlainOn, all_walls}
 use Rattle.bend_finder.specs.Special.{live_holds, IsCrossedAt, StartsLive}
 use Rattle.bend_finder.proofs.Lines.{line-parallel, parallel-line, all-parallel, same-direction_of, on-same, run-line, run-within, run-has}
 use Rattle.bend_finder.proofs.SpecialPoints.{special-out, crossed-special, starts-special}
@@ -143,12 +143,12 @@ module _ (ls seen : List Wall) (q : Point) (fs rs : List CodeWall) (h : IsFoundO
             let t = line-parallel u.dir v.dir (like-found o.0 o.1 ∙ d ∙ sym (like-run s.0 s.1)) in
             let y : are_parallel u v ≡ true = ap (λ m. int_eq m (pos 0)) t ∙ int_eq-refl (pos 0) in absurd (cc)
 
--- ---- all runs
+-- ---- all walls on the point
 
 pub none-found_on : (ls : List Wall) (q : Point) → IsFoundOn ls [] q []
 none-found_on ls q = record { some = λ w i. absurd i; all = λ w i o. absurd i }
 
-module _ (ls : List Wall) (rs : List LiveRun) (q : Point) (fs : List CodeWall) (runs : AreLiveRunsOf ls rs) (h : IsFoundOn ls (all_walls rs) q (walls_of fs)) where
+module _ (ls seen : List Wall) (q : Point) (fs : List CodeWall) (all : (w : Wall) → In w ls → IsTrue (is_on w q) → In w seen) (h : IsFoundOn ls seen q (walls_of fs)) where
   abbrev g : List Wall
   g = walls_of fs
 
@@ -160,7 +160,7 @@ module _ (ls : List Wall) (rs : List LiveRun) (q : Point) (fs : List CodeWall) (
   start-special s = starts-special ls q (s.0, within s.0 s.1, s.2)
 
   here : (w : Wall) → In w ls → IsTrue (is_on w q) → In w g
-  here w i o = h.all w (runs.all w i) o
+  here w i o = h.all w (all w i o) o
 
   starts-on : (w : Wall) → starts_at w q ≡ true → is_on w q ≡ true
   starts-on w e = subst (λ (p : Point). is_on w p ≡ true) (point_eq-same w.at q (and-right (not (is_line w.kind)) (point_eq w.at q) e)) (on-own w)

@@ -6,6 +6,7 @@ pub mod WallCrossings
 pub mod RunCrossings
 pub mod SpecialPoints
 pub mod FoundWalls
+mod MarkedRuns
 pub mod PowerMajorants
 pub mod ExactPowers
 pub mod KeptEntries
@@ -14,4 +15,6 @@ pub mod KeptRuns
 pub mod TakenPowers
 pub mod TermMasses
 pub mod PointBends
+mod MarkedSpots
+mod SortedMarks
 pub mod Found

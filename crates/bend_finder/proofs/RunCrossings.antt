@@ -1,15 +1,14 @@
 -- What walls along one line give to the candidates of a stretch, which meets their line once.
 use Rattle.std.proofs.Common.{◌≡◌, ◌≢◌, refl, sym, ap, subst, ◌∙◌, Bool, true, false, List, [], ◌∷◌, ◌++◌, ◌⊎◌, inl, inr, arith}
 use Rattle.std.specs.Prelude.{pos, ◌||◌}
-use Rattle.std.specs.List.{dedup}
-use Rattle.std.specs.List.Sorted.{IsPermutation, IsSorted}
+use Rattle.std.specs.List.Sorted.{IsPermutation}
 use Rattle.std.proofs.lemmas.Int.{ints}
 use Rattle.std.proofs.lemmas.List.Sorted.{IsPermutation-sym}
 use Rattle.scattering.specs.Collections.{In}
 use Rattle.scattering.specs.Series.{Exp, det}
 use Rattle.scattering.specs.Plane.{Point, IsPoint, IsNear, FromOn, Beyond}
 use Rattle.scattering.specs.Wall.{Wall, is_on}
-use Rattle.scattering.proofs.Lists.{In-append, In-left, In-right, In-map, map-append}
+use Rattle.scattering.proofs.Lists.{In-append, In-left, In-right, In-map, In-mapped, map-append}
 use Rattle.plane_theory.proofs.Points.{beyond-from, line-test}
 use Rattle.plane_theory.proofs.Directions.{direction-not_origin}
 use Rattle.broken_line_theory.proofs.GenericPoints.{on-own}
@@ -17,15 +16,16 @@ use Rattle.plane_geom.specs.declared.Point.{Point as CodePoint}
 use Rattle.plane_geom.specs.declared.Direction.{Direction}
 use Rattle.plane_geom.specs.declared.Support.{Support}
 use Rattle.plane_geom.specs.declared.Support.TheVariants.{Line, Half}
-use Rattle.plane_geom.specs.Shown.{point_of, vector_of, OnSupport, position_order}
+use Rattle.plane_geom.specs.Shown.{point_of, vector_of, OnSupport}
 use Rattle.plane_geom.proofs.Meets.{det-back}
 use Rattle.scatter_diagram.specs.Shown.{wall_of, walls_of}
 use Rattle.scatter_diagram.specs.declared.wall.Wall.{Wall as CodeWall}
-use Rattle.joint_finder.specs.Joints.{points_of, same_point}
+use Rattle.joint_finder.specs.Joints.{points_of}
 use Rattle.joint_finder.specs.Crossings.{Adds}
 use Rattle.joint_finder.proofs.Meetings.{one-point}
-use Rattle.joint_finder.proofs.Sorted.{sorted-points, kept-points, points-from}
-use Rattle.bend_finder.specs.Crossings.{CrossesSome, IsStartAhead, IsStartOfSome, AreFoundAhead, AreCandidates, AddsFound, AddsCrossings}
+use Rattle.joint_finder.proofs.Lists.{In-permutation}
+use Rattle.bend_finder.specs.Crossings.{CrossesSome, IsStartAhead, IsStartOfSome, AreFoundAhead, AddsFound}
+use Rattle.bend_finder.specs.Marks.{MeetsSomeFrom}
 use Rattle.bend_finder.specs.Runs.{IsOneLine, OnSome}
 use Rattle.bend_finder.proofs.Directions.{both-along}
 use Rattle.bend_finder.proofs.Lines.{all-parallel, on-line}
@@ -79,6 +79,9 @@ none-found p e = record { each = λ q i. absurd i; crossings = λ q c n. absurd 
 pub no-walls : (p : Point) (e : Exp) (ps : List CodePoint) → AddsFound [] p e ps ps false
 no-walls p e ps = record { keeps = λ q i. i; each = λ q i. inl i; crossings = λ q c n. absurd c.1; starts = λ q s. absurd s.1; far = λ t. absurd (cc); near = λ f q c. absurd c.1 }
 
+pub det-zero-back : (a b : Exp) → det a b ≡ pos 0 → det b a ≡ pos 0
+det-zero-back a b z = let t = det-back a b in omega (arith, ints, z, t)
+
 -- ---- a run, of which u is a wall
 
 module _ (p : CodePoint) (d : Direction) (ws : List CodeWall) (one : IsOneLine (walls_of ws)) (u : CodeWall) (i : In (wall_of u) (walls_of ws)) where
@@ -103,10 +106,7 @@ module _ (p : CodePoint) (d : Direction) (ws : List CodeWall) (one : IsOneLine (
   on-whole : (w : Wall) → In w g → (q : Point) → IsPoint q → is_on w q ≡ true → OnSupport line q
   on-whole w j q k h = (line-test (point_of u.at) (vector_of u.dir) q u.at.reduced.below k.below (direction-not_origin (vector_of u.dir) u.dir.primitive)).0 (on-line g one (wall_of u) i w j (at-point w j).0 q h)
 
-  det-zero-back : (a b : Exp) → det a b ≡ pos 0 → det b a ≡ pos 0
-  det-zero-back a b z = let t = det-back a b in omega (arith, ints, z, t)
-
-  turns-line : (w : Wall) → In w g → det w.dir e ≢ pos 0 → det e (vector_of u.dir) ≢ pos 0
+  pub turns-line : (w : Wall) → In w g → det w.dir e ≢ pos 0 → det e (vector_of u.dir) ≢ pos 0
   turns-line w j n z = n (both-along w.dir e (vector_of u.dir) u.dir.primitive (det-zero-back (vector_of u.dir) w.dir (all-parallel g one (wall_of u) i w j)) z)
 
   turns-wall : det e (vector_of u.dir) ≢ pos 0 → (w : Wall) → In w g → det w.dir e ≢ pos 0
@@ -135,13 +135,22 @@ module _ (p : CodePoint) (d : Direction) (ws : List CodeWall) (one : IsOneLine (
     near = λ f q c. absurd (h q c);
   }
 
-  pub outside-run : det e (vector_of u.dir) ≢ pos 0 → ((q : Point) → IsPoint q → OnSupport (Half p d) q → OnSupport line q → ⊥) → (ps : List CodePoint) → AddsFound g o e ps ps false
-  outside-run n h ps = none-crossed (λ q c. let m = common q c in h q c.2.0 m.1 m.2) n ps
+  -- what it meets is on their line
+  met-common : (m : MeetsSomeFrom g o e) → (det e (vector_of u.dir) ≢ pos 0) × FromOn o e m.2.0 × OnSupport line m.2.0
+  met-common m = (turns-line m.0 m.1 m.2.4, m.2.2, on-whole m.0 m.1 m.2.0 m.2.1 m.2.3)
+
+  pub crossed-met : (q : Point) → CrossesSome g o e q → MeetsSomeFrom g o e
+  crossed-met q c = (c.0, c.1, (q, c.2.0, beyond-from o e q c.2.1, c.2.2, c.2.3))
 
   -- it meets their line at r
   module _ (r : CodePoint) (n : det e (vector_of u.dir) ≢ pos 0) (a : OnSupport (Half p d) (point_of r)) (b : OnSupport line (point_of r)) where
-    only : (q : Point) → CrossesSome g o e q → q ≡ point_of r
+    pub only : (q : Point) → CrossesSome g o e q → q ≡ point_of r
     only q c = let m = common q c in one-point (Half p d) line q (point_of r) c.2.0 r.reduced n m.1 m.2 a b
+
+    pub met-on : MeetsSomeFrom g o e → OnSome g (point_of r)
+    met-on m =
+        let c = met-common m in
+        (m.0, m.1, subst (λ (s : Point). is_on m.0 s ≡ true) (one-point (Half p d) line m.2.0 (point_of r) m.2.1 r.reduced n c.1 c.2 a b) m.2.3)
 
     pub missed-run : (OnSome g (point_of r) × (point_of r ≢ o) → ⊥) → (ps : List CodePoint) → AddsFound g o e ps ps false
     missed-run h ps = none-crossed (λ q c. h ((c.0, c.1, subst (λ (s : Point). is_on c.0 s ≡ true) (only q c) c.2.2), λ t. moves q c (only q c ∙ t))) n ps
@@ -193,55 +202,59 @@ module _ (p : CodePoint) (d : Direction) (ws : List CodeWall) (one : IsOneLine (
           let r = code s.0 s.1 in
           h.all q (subst IsPoint (sym s.2) (at-point s.0 s.1).0) (r.0, r.1, (s.2 ∙ ap (λ (w : Wall). w.at) r.2, s.3))
 
-  -- it meets their line too far away
-  pub crossed-run : det e (vector_of u.dir) ≢ pos 0 → (old new : List CodePoint) (far : Bool) → AddsCrossings g o e old new far → AddsFound g o e old new far
-  crossed-run n old new far h = record {
-    keeps = λ q j. back q (In-left (points_of old) (points_of h.0) q j);
-    each = λ q j. each q (In-append (points_of old) (points_of h.0) q (subst (In q) joined j));
-    crossings = λ q c m. late q (h.2.all q c m);
-    starts = λ q s. let c = start-crosses n q s in late q (h.2.all q c.0 c.1);
-    far = h.2.far;
-    near = h.2.near;
-  }
-    where
-      joined : points_of new ≡ points_of old ++ points_of h.0
-      joined = ap points_of h.1 ∙ map-append point_of old h.0
+  -- it doesn't meet them
+  pub unmet-run : det e (vector_of u.dir) ≢ pos 0 → (MeetsSomeFrom g o e → ⊥) → (ps : List CodePoint) → AddsFound g o e ps ps false
+  unmet-run n h ps = none-crossed (λ q c. h (crossed-met q c)) n ps
 
-      back : (q : Point) → In q (points_of old ++ points_of h.0) → In q (points_of new)
-      back q j = subst (In q) (sym joined) j
+  pub met-inside : ((q : Point) → IsPoint q → OnSupport (Half p d) q → OnSupport line q → ⊥) → MeetsSomeFrom g o e → ⊥
+  met-inside h m = let c = met-common m in h m.2.0 m.2.1 c.1 c.2
 
-      late : (q : Point) → In q (points_of h.0) → In q (points_of new)
-      late q j = back q (In-right (points_of old) (points_of h.0) q j)
+  -- it meets them too far away
+  module _ (f : (q : Point) × IsPoint q × OnSupport (Half p d) q × OnSupport line q × (IsNear q → ⊥)) (n : det e (vector_of u.dir) ≢ pos 0) (m : MeetsSomeFrom g o e) where
+    same : (q : Point) → IsPoint q → FromOn o e q → OnSupport line q → q ≡ f.0
+    same q i a b = one-point (Half p d) line q f.0 i f.1 n a b f.2 f.3
 
-      each : (q : Point) → In q (points_of old) ⊎ In q (points_of h.0) → In q (points_of old) ⊎ (IsPoint q × Beyond o e q)
-      each q (inl j) = inl j
-      each q (inr j) = let c = h.2.each q j in inr (c.2.0, c.2.1)
+    pub far-crossed : (q : Point) → CrossesSome g o e q → IsNear q → ⊥
+    far-crossed q c k = let a = common q c in f.4 (subst IsNear (same q c.2.0 a.1 a.2) k)
 
--- ---- all candidates
+    pub far-run : (ps : List CodePoint) → AddsFound g o e ps ps true
+    far-run ps = record {
+      keeps = λ q j. j;
+      each = λ q j. inl j;
+      crossings = λ q c k. absurd (far-crossed q c k);
+      starts = λ q s. let c = start-crosses n q s in absurd (far-crossed q c.0 c.1);
+      far = λ t. (f.0, crossed, f.4);
+      near = λ t q c. absurd (cc);
+    }
+      where
+        crossed : CrossesSome g o e f.0
+        crossed =
+            let c = met-common m in
+            (m.0, m.1, (f.1, from-beyond o e f.0 p.reduced f.1 f.2 (λ t. f.4 (subst IsNear (sym t) p.near)), subst (λ (s : Point). is_on m.0 s ≡ true) (same m.2.0 m.2.1 c.1 c.2) m.2.3, m.2.4))
 
-pub are-candidates : (ls : List Wall) (p : Point) (e : Exp) (ps qs : List CodePoint) (far : Bool) → AreFoundAhead ls p e ps far → IsPermutation ps qs → IsSorted position_order qs → AreCandidates ls p e (dedup same_point qs) far
-are-candidates ls p e ps qs far h m s = record {
-  sorted = sorted-points qs s;
-  found = record {
-    each = λ q i. h.each q (points-from ps qs q (IsPermutation-sym ps qs m) i);
-    crossings = λ q c n. kept-points ps qs q m (h.crossings q c n);
-    starts = λ q c. kept-points ps qs q m (h.starts q c);
-    far = h.far;
-    near = h.near;
-  };
+-- ---- all points
+
+-- sorting keeps them
+pub permuted-found : (ls : List Wall) (p : Point) (e : Exp) (ps qs : List CodePoint) (far : Bool) → AreFoundAhead ls p e ps far → IsPermutation ps qs → AreFoundAhead ls p e qs far
+permuted-found ls p e ps qs far h m = record {
+  each = λ q i. h.each q (moved qs ps (IsPermutation-sym ps qs m) q i);
+  crossings = λ q c n. moved ps qs m q (h.crossings q c n);
+  starts = λ q s. moved ps qs m q (h.starts q s);
+  far = h.far;
+  near = h.near;
 }
+  where
+    moved : (ps qs : List CodePoint) → IsPermutation ps qs → (q : Point) → In q (points_of ps) → In q (points_of qs)
+    moved ps qs m q i = let r = In-map point_of ps q i in subst (λ (s : Point). In s (points_of qs)) (sym r.2) (In-mapped point_of qs r.0 (In-permutation ps qs r.0 m r.1))
 
 -- the walls of ls and of ms are the same
-pub same-candidates : (ls ms : List Wall) (p : Point) (e : Exp) (ps : List CodePoint) (far : Bool) → ((w : Wall) → In w ls → In w ms) → ((w : Wall) → In w ms → In w ls) → AreCandidates ms p e ps far → AreCandidates ls p e ps far
-same-candidates ls ms p e ps far to from h = record {
-  sorted = h.sorted;
-  found = record {
-    each = h.found.each;
-    crossings = λ q c n. h.found.crossings q (there q c) n;
-    starts = λ q s. h.found.starts q (s.0, to s.0 s.1, s.2, s.3);
-    far = λ t. let c = h.found.far t in (c.0, back c.0 c.1, c.2);
-    near = λ f q c. h.found.near f q (there q c);
-  };
+pub same-found : (ls ms : List Wall) (p : Point) (e : Exp) (ps : List CodePoint) (far : Bool) → ((w : Wall) → In w ls → In w ms) → ((w : Wall) → In w ms → In w ls) → AreFoundAhead ms p e ps far → AreFoundAhead ls p e ps far
+same-found ls ms p e ps far to from h = record {
+  each = h.each;
+  crossings = λ q c n. h.crossings q (there q c) n;
+  starts = λ q s. h.starts q (s.0, to s.0 s.1, s.2, s.3);
+  far = λ t. let c = h.far t in (c.0, back c.0 c.1, c.2);
+  near = λ f q c. h.near f q (there q c);
 }
   where
     there : (q : Point) → CrossesSome ls p e q → CrossesSome ms p e q

@@ -1,44 +1,22 @@
 -- Where a stretch from p along e crosses walls that aren't parallel to it.
 --     MeetsAcross p e w q             it crosses w at q
---     IsCrossing p e w c          c tells where it crosses w
---     AreCrossings ls p e ps told      ps are its near crossings of the walls ls; told tells whether there are others
 --     AreFoundAhead ls p e ps told          likewise, with the points of walls on the stretch
---     AreCandidates ls p e ps told     these, sorted
-use Rattle.std.specs.Prelude.{◌≡◌, ◌≢◌, ◌⊎◌, ◌++◌, Bool, IsTrue, IsFalse, List, pos}
-use Rattle.scattering.specs.Collections.{In, EveryPair}
+use Rattle.std.specs.Prelude.{◌≡◌, ◌≢◌, ◌⊎◌, Bool, IsTrue, IsFalse, List, pos}
+use Rattle.scattering.specs.Collections.{In}
 use Rattle.scattering.specs.Series.{Exp, det}
-use Rattle.scattering.specs.Plane.{Point, IsPoint, IsNear, Beyond, point_before}
+use Rattle.scattering.specs.Plane.{Point, IsPoint, IsNear, Beyond}
 use Rattle.scattering.specs.Wall.{Wall, is_on}
 use Rattle.plane_geom.specs.Shown.{point_of}
 use Rattle.plane_geom.specs.declared.Point.{Point as CodePoint}
 use Rattle.joint_finder.specs.Joints.{points_of}
 use Rattle.joint_finder.specs.Strands.{OfSome}
 use Rattle.scatter_diagram.specs.declared.wall.Wall.{Wall as CodeWall}
-use Rattle.bend_finder.specs.declared.crossings.Crossing.{Crossing}
-use Rattle.bend_finder.specs.declared.crossings.Crossing.TheVariants.{Missed, TooFar, At}
 
 abbrev pub MeetsAcross : Point → Exp → Wall → Point → Type 0
 MeetsAcross p e w q = IsPoint q × Beyond p e q × IsTrue (is_on w q) × (det w.dir e ≢ pos 0)
 
 abbrev pub CrossesSome : List Wall → Point → Exp → Point → Type 0
 CrossesSome ls p e q = (w : Wall) × In w ls × MeetsAcross p e w q
-
-abbrev pub IsCrossing : Point → Exp → Wall → Crossing → Type 0
-IsCrossing p e w Missed = (q : Point) → MeetsAcross p e w q → ⊥
-IsCrossing p e w TooFar = (q : Point) × MeetsAcross p e w q × (IsNear q → ⊥)
-IsCrossing p e w (At r) = MeetsAcross p e w (point_of r)
-
--- q, unless it is p
-abbrev pub IsUnless : Point → CodePoint → Crossing → Type 0
-IsUnless p q Missed = point_of q ≡ p
-IsUnless p q TooFar = ⊥
-IsUnless p q (At r) = (r ≡ q) × (point_of q ≢ p)
-
-pub record AreCrossings (ls : List Wall) (p : Point) (e : Exp) (ps : List CodePoint) (told : Bool) : Type 0 where
-  pub each : (q : Point) → In q (points_of ps) → CrossesSome ls p e q
-  pub all : (q : Point) → CrossesSome ls p e q → IsNear q → In q (points_of ps)
-  pub far : IsTrue told → (q : Point) × CrossesSome ls p e q × (IsNear q → ⊥)
-  pub near : IsFalse told → (q : Point) → CrossesSome ls p e q → IsNear q
 
 -- the point of a wall lies on the stretch
 abbrev pub IsStartAhead : List Wall → Point → Exp → Point → Type 0
@@ -52,10 +30,6 @@ pub record AreFoundAhead (ls : List Wall) (p : Point) (e : Exp) (ps : List CodeP
   pub far : IsTrue told → (q : Point) × CrossesSome ls p e q × (IsNear q → ⊥)
   pub near : IsFalse told → (q : Point) → CrossesSome ls p e q → IsNear q
 
-pub record AreCandidates (ls : List Wall) (p : Point) (e : Exp) (ps : List CodePoint) (told : Bool) : Type 0 where
-  pub sorted : EveryPair (λ q r. IsTrue (point_before q r)) (points_of ps)
-  pub found : AreFoundAhead ls p e ps told
-
 -- the walls g give more points: `new` has the points `old` and these, and told tells whether g is crossed elsewhere
 pub record AddsFound (g : List Wall) (p : Point) (e : Exp) (old new : List CodePoint) (told : Bool) : Type 0 where
   pub keeps : (q : Point) → In q (points_of old) → In q (points_of new)
@@ -64,9 +38,6 @@ pub record AddsFound (g : List Wall) (p : Point) (e : Exp) (old new : List CodeP
   pub starts : (q : Point) → IsStartAhead g p e q → In q (points_of new)
   pub far : IsTrue told → (q : Point) × CrossesSome g p e q × (IsNear q → ⊥)
   pub near : IsFalse told → (q : Point) → CrossesSome g p e q → IsNear q
-
-abbrev pub AddsCrossings : List Wall → Point → Exp → List CodePoint → List CodePoint → Bool → Type 0
-AddsCrossings g p e old new far = (ps : List CodePoint) × (new ≡ old ++ ps) × AreCrossings g p e ps far
 
 -- of one of the walls
 abbrev pub IsStartOf : Point → Exp → CodeWall → Point → Type 0

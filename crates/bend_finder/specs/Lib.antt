@@ -6,4 +6,5 @@ pub mod Special
 pub mod Powers
 pub mod Kept
 pub mod KeptRuns
+pub mod Marks
 pub mod Bends

@@ -77,8 +77,7 @@ impl<'e> BendFinder<'e> {
     {
         let d = direction_of(x);
         let found = self.live.candidates(self.alloc, p, &d)?;
-        let points = found.points.as_slice();
-        let turns = turns_at(&mut self.kept, self.alloc, &self.live, points, x, most)?;
+        let turns = turns_at(&mut self.kept, self.alloc, &found, x, most)?;
         Ok(Ahead {
             bends: turns.bends,
             far: found.far,

@@ -6,13 +6,13 @@
 mod ahead;
 mod bend;
 mod candidates;
-mod crossings;
 mod direction;
 mod finder;
 mod kept;
 mod kept_runs;
 mod live;
 mod live_walls;
+mod marks;
 mod masses;
 mod power_key;
 mod powers;

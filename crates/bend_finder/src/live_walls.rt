@@ -9,10 +9,10 @@ ghost use Rattle.plane_geom.specs.Shown.{point_of, vector_of};
 ghost use Rattle.scatter_diagram.specs.Listed.{AreOfOrder};
 ghost use Rattle.scatter_diagram.specs.Shown.{walls_of};
 ghost use Rattle.bend_finder.specs.Ahead.{finder};
-ghost use Rattle.bend_finder.specs.Crossings.{AreCandidates};
 ghost use Rattle.bend_finder.specs.KeptRuns.{IsSomeRun};
 ghost use Rattle.bend_finder.specs.Live.{live_of};
-ghost use Rattle.bend_finder.specs.Runs.{IsPlainOn};
+ghost use Rattle.bend_finder.specs.Marks.{AreMarksOf, AreOfOrderAhead};
+ghost use Rattle.bend_finder.specs.Runs.{AreAllLive, IsPlainOn};
 
 use crate::candidates::{Candidates, candidates_ahead};
 use crate::live::{live_runs, live_walls};
@@ -73,12 +73,14 @@ impl<'e> LiveWalls<'e> {
         alloc: Global,
         p: &Point,
         d: &Direction,
-    ) -> Result<Candidates, AllocError>
-        ensures { IfOk result (λ c. AreCandidates (live_of self.now) (point_of p.now)
-            (vector_of d.now) c.points.items c.far) }
+    ) -> Result<Candidates<'_>, AllocError>
+        ensures marks { IfOk result (λ c. AreMarksOf (live_of self.now) (point_of p.now)
+            (vector_of d.now) c.along.items c.marks.items c.far) }
+        ensures order { IfOk result
+            (λ c. AreOfOrderAhead self.now.limit c.along.items c.marks.items) }
+        ensures live { AreAllLive (live_of self.now) }
     {
-        let found = candidates_ahead(alloc, self.runs.as_slice(), p, d)?;
-        Ok(found)
+        candidates_ahead(alloc, self.runs.as_slice(), p, d)
     }
 
     /// Walls of which those on the point are the live ones there, or None where the point is special.

@@ -9,12 +9,12 @@ ghost use Rattle.scatter_diagram.specs.Listed.{AreOfOrder};
 ghost use Rattle.scatter_diagram.specs.Shown.{wall_of, walls_of};
 ghost use Rattle.bend_finder.specs.Runs.{IsOneLine, AreOneLines, IsRunOf, AreLiveRunsOf, AreAllLive, OnSome, IsFoundOn, IsPlainOn, all_walls};
 ghost use Rattle.bend_finder.specs.KeptRuns.{IsSomeRun};
+ghost use Rattle.bend_finder.specs.Marks.{mark_walls, all_along, all_marked, AreLinesAhead, IsSpot, AreOfOrderAhead, AreMarksOfOrder};
 ghost use Rattle.bend_finder.specs.Special.{live_starts, StartsLive};
 
-use crate::products::det;
-use plane_geom::Point;
+use crate::marks::Mark;
+use plane_geom::{Point, det};
 use scatter_diagram::Wall;
-use trunc_series::Exp;
 
 /// Whether a wall of one of the runs is on the point.
 pub(crate) fn is_on_run(runs: &[Vec<Wall>], p: &Point) -> bool
@@ -46,6 +46,63 @@ pub(crate) fn plain_run<'a>(runs: &'a [Vec<Wall>], q: &Point) -> Option<&'a [Wal
     }
     if has_start(found, q) {
         return None;
+    }
+    Some(found)
+}
+
+/// The same at a point of a stretch: by the runs along this and the marks at the point, which are all on the point.
+pub(crate) fn plain_among<'a>(
+    along: &[&'a [Wall]],
+    marks: &[Mark<'a>],
+    q: &Point,
+) -> Option<&'a [Wall]>
+    requires { AreLinesAhead along.now marks.now }
+    ensures walls { (ls : List PlaneWall) → IsSpot ls (point_of q.now) along.now marks.now →
+        MatchOption result (IsTrue (is_special ls (point_of q.now)))
+        (λ ws. IsPlainOn ls (point_of q.now) (walls_of ws.now)) }
+    ensures run { (ls : List PlaneWall) → IsSpot ls (point_of q.now) along.now marks.now →
+        MatchOption result ⊤ (λ ws. IsSomeRun ls (walls_of ws.now)) }
+    ensures order { (n : ℕ) → AreOfOrderAhead n along.now marks.now →
+        MatchOption result ⊤ (λ ws. AreOfOrder n ws.now) }
+{
+    let found = found_along(along, q)?;
+    let found = found_marked(found, marks, q)?;
+    if has_start(found, q) {
+        return None;
+    }
+    Some(found)
+}
+
+/// Those of the runs along a stretch that are on the point, or None where two have walls there that aren't parallel.
+fn found_along<'a>(along: &[&'a [Wall]], q: &Point) -> Option<&'a [Wall]>
+    requires { Every (λ a. IsOneLine (walls_of a.now)) along.now }
+    ensures walls { (ls : List PlaneWall) → Every (λ a. IsRunOf ls (walls_of a.now)) along.now →
+        AreAllLive ls → MatchOption result (IsTrue (is_special ls (point_of q.now)))
+        (λ ws. IsFoundOn ls (all_along along.now) (point_of q.now) (walls_of ws.now)) }
+    ensures order { (n : ℕ) → Every (λ a. AreOfOrder n a.now) along.now →
+        MatchOption result ⊤ (λ ws. AreOfOrder n ws.now) }
+{
+    let mut found: &'a [Wall] = &[];
+    for run in along {
+        found = found_more(found, *run, q)?;
+    }
+    Some(found)
+}
+
+/// The walls that were found on the point, or those of marks there, or None where some aren't parallel.
+fn found_marked<'a>(found: &'a [Wall], marks: &[Mark<'a>], q: &Point) -> Option<&'a [Wall]>
+    requires { Every (λ m. IsOneLine (mark_walls m)) marks.now }
+    ensures walls { (ls seen : List PlaneWall) →
+        IsFoundOn ls seen (point_of q.now) (walls_of found.now) →
+        Every (λ m. IsRunOf ls (mark_walls m)) marks.now → AreAllLive ls →
+        MatchOption result (IsTrue (is_special ls (point_of q.now)))
+        (λ ws. IsFoundOn ls (seen ++ all_marked marks.now) (point_of q.now) (walls_of ws.now)) }
+    ensures order { (n : ℕ) → AreOfOrder n found.now → AreMarksOfOrder n marks.now →
+        MatchOption result ⊤ (λ ws. AreOfOrder n ws.now) }
+{
+    let mut found = found;
+    for m in marks {
+        found = found_more(found, m.walls, q)?;
     }
     Some(found)
 }
@@ -116,6 +173,5 @@ fn starts_live(w: &Wall, p: &Point) -> bool
 fn are_parallel(u: &Wall, v: &Wall) -> bool
     ensures { result ≡ are_parallel (wall_of u.now) (wall_of v.now) }
 {
-    let (a, b) = (v.dir.a, v.dir.b);
-    det(&u.dir, Exp { a, b }) == 0
+    det(&u.dir, &v.dir) == 0
 }

@@ -1,22 +1,30 @@
 // The bends at points.
 
-ghost use Rattle.std.specs.Prelude.{◌≡◌, ◌≤◌, ◌++◌, IfOk, OnOk, IsTrue};
+ghost use Rattle.std.specs.Prelude.{◌≡◌, ℕ, ◌<◌, ◌≤◌, ◌++◌, ◌∷◌, [], IfOk, OnOk, IsTrue, List, length, take};
 ghost use Rattle.limits.specs.Limits.{highest_order};
-ghost use Rattle.scattering.specs.Collections.{EveryPair};
-ghost use Rattle.scattering.specs.Plane.{point_before};
+ghost use Rattle.scattering.specs.Collections.{Every};
+ghost use Rattle.scattering.specs.Plane.{Point as PlanePoint, point_before};
+ghost use Rattle.scattering.specs.Wall.{Wall as PlaneWall};
 ghost use Rattle.plane_geom.specs.Shown.{point_of};
+ghost use Rattle.plane_geom.specs.declared.Point.{Point};
 ghost use Rattle.trunc_series.specs.Shown.{exp_of};
+ghost use Rattle.scatter_diagram.specs.Shown.{walls_of};
 ghost use Rattle.joint_finder.specs.Joints.{points_of};
 ghost use Rattle.bend_finder.specs.Ahead.{IsTraceable, bends_of};
 ghost use Rattle.bend_finder.specs.Bends.{AreBends, told_bends, IsFirstSpecial};
-ghost use Rattle.bend_finder.specs.Live.{live_of};
-ghost use Rattle.bend_finder.specs.KeptRuns.{AreKeptRuns};
+ghost use Rattle.bend_finder.specs.KeptRuns.{AreKeptRuns, IsSomeRun};
+ghost use Rattle.bend_finder.specs.Marks.{marked, AreLinesAhead, AreOfOrderAhead, AreReadyMarks, AreBeforeFirst, IsFirstCount, IsFirstSpot};
+ghost use Rattle.bend_finder.specs.Powers.{AreAtLeast};
+ghost use Rattle.bend_finder.specs.Runs.{IsPlainOn};
 
 use crate::bend::Bend;
+use crate::candidates::Candidates;
 use crate::kept_runs::KeptRuns;
-use crate::live_walls::LiveWalls;
+use crate::marks::{Mark, count_at};
 use crate::masses::masses;
+use crate::spots::plain_among;
 use plane_geom::Point;
+use scatter_diagram::Wall;
 use std::alloc::{AllocError, Global};
 use trunc_series::{Exp, Majorant};
 
@@ -27,41 +35,113 @@ pub(crate) struct Turns {
     pub(crate) special: Option<Point>,
 }
 
-/// The bends of degree at most `most` at those of the points that aren't special, with their weights, and the first
-/// point that is.
+/// The bends of degree at most `most` at those of the points of a stretch that aren't special, with their weights, and
+/// the first point that is.
 pub(crate) fn turns_at(
     kept: &mut KeptRuns,
     alloc: Global,
-    live: &LiveWalls<'_>,
-    points: &[Point],
+    found: &Candidates<'_>,
     x: Exp,
     most: u32,
 ) -> Result<Turns, AllocError>
     requires small { IsTraceable x }
-    requires low { live.now.limit ≤ highest_order }
-    requires most { most ≤ live.now.limit }
-    requires sorted { EveryPair (λ p q. IsTrue (point_before p q)) (points_of points.now) }
-    requires kept { AreKeptRuns (live_of live.now) kept.old }
-    ensures bends { IfOk result (λ r. AreBends most (live_of live.now) (exp_of x)
-        (points_of points.now) (bends_of r.bends.items)) }
-    ensures special { IfOk result (λ r. IsFirstSpecial (live_of live.now) points.now r.special) }
-    ensures kept { AreKeptRuns (live_of live.now) kept.new }
+    requires low { most ≤ highest_order }
+    requires lines { AreLinesAhead found.now.along.items found.now.marks.items }
+    requires order { (n : ℕ) × (most ≤ n) ×
+        AreOfOrderAhead n found.now.along.items found.now.marks.items }
+    ensures bends { (ls : List PlaneWall) →
+        AreReadyMarks ls kept.old found.now.along.items found.now.marks.items → IfOk result
+        (λ r. AreBends most ls (exp_of x) (points_of (marked found.now.marks.items))
+        (bends_of r.bends.items)) }
+    ensures special { (ls : List PlaneWall) →
+        AreReadyMarks ls kept.old found.now.along.items found.now.marks.items →
+        IfOk result (λ r. IsFirstSpecial ls (marked found.now.marks.items) r.special) }
+    ensures kept { (ls : List PlaneWall) →
+        AreReadyMarks ls kept.old found.now.along.items found.now.marks.items → AreKeptRuns ls kept.new }
 {
-    let mut bends = Vec::new(alloc);
-    let mut special = None;
-    for q in points {
-        match live.on_plain(q) {
-            None => special = special.or(Some(*q)),
-            Some(walls) => {
-                // a bend has degree 1 at least
-                if most > 0 {
-                    let power = kept.majorant(alloc, walls, q, x, most)?;
-                    add_bends(&mut bends, alloc, q, &power)?;
-                }
-            }
-        }
+    let mut turns = Turns {
+        bends: Vec::new(alloc),
+        special: None,
+    };
+    let marks = found.marks.as_slice();
+    let mut start = 0;
+    while start < marks.len() {
+        let along = found.along.as_slice();
+        start += turns.add_spot(kept, alloc, along, &marks[start..], x, most)?;
     }
-    Ok(Turns { bends, special })
+    Ok(turns)
+}
+
+impl Turns {
+    /// Adds what is at the point of the first mark, and tells how many marks are there.
+    fn add_spot(
+        &mut self,
+        kept: &mut KeptRuns,
+        alloc: Global,
+        along: &[&[Wall]],
+        marks: &[Mark<'_>],
+        x: Exp,
+        most: u32,
+    ) -> Result<usize, AllocError>
+        requires small { IsTraceable x }
+        requires low { most ≤ highest_order }
+        requires some { 0 < length marks.now }
+        requires lines { AreLinesAhead along.now marks.now }
+        requires order { (n : ℕ) × (most ≤ n) × AreOfOrderAhead n along.now marks.now }
+        ensures count { IfOk result (IsFirstCount marks.now) }
+        ensures bends { (ls : List PlaneWall) (qs : List PlanePoint) →
+            IsFirstSpot ls along.now marks.now → AreKeptRuns ls kept.old → AreBeforeFirst qs marks.now →
+            AreBends most ls (exp_of x) qs (bends_of self.old.bends.items) → IfOk result (λ n.
+            AreBends most ls (exp_of x) (qs ++ points_of (marked (take n marks.now)))
+            (bends_of self.new.bends.items)) }
+        ensures special { (ls : List PlaneWall) (ps : List Point) →
+            IsFirstSpot ls along.now marks.now → AreBeforeFirst (points_of ps) marks.now →
+            IsFirstSpecial ls ps self.old.special → IfOk result (λ n.
+            IsFirstSpecial ls (ps ++ marked (take n marks.now)) self.new.special) }
+        ensures kept { (ls : List PlaneWall) → IsFirstSpot ls along.now marks.now →
+            AreKeptRuns ls kept.old → AreKeptRuns ls kept.new }
+    {
+        let Some(first) = marks.first() else {
+            return Ok(0);
+        };
+        let count = count_at(marks, &first.at);
+        let (here, _) = marks.split_at(count);
+        match plain_among(along, here, &first.at) {
+            None => self.special = self.special.or(Some(first.at)),
+            Some(walls) => add_turns(&mut self.bends, kept, alloc, walls, &first.at, x, most)?,
+        }
+        Ok(count)
+    }
+}
+
+/// Appends the bends at a point of which the walls on it are all live ones there.
+fn add_turns(
+    bends: &mut Vec<(Bend, u128)>,
+    kept: &mut KeptRuns,
+    alloc: Global,
+    walls: &[Wall],
+    at: &Point,
+    x: Exp,
+    most: u32,
+) -> Result<(), AllocError>
+    requires small { IsTraceable x }
+    requires low { most ≤ highest_order }
+    requires order { AreAtLeast most walls.now }
+    ensures bends { (ls : List PlaneWall) (qs : List PlanePoint) →
+        IsPlainOn ls (point_of at.now) (walls_of walls.now) →
+        IsSomeRun ls (walls_of walls.now) → AreKeptRuns ls kept.old →
+        Every (λ q. IsTrue (point_before q (point_of at.now))) qs →
+        AreBends most ls (exp_of x) qs (bends_of bends.old.items) →
+        OnOk result (AreBends most ls (exp_of x) (qs ++ point_of at.now ∷ []) (bends_of bends.new.items)) }
+    ensures kept { (ls : List PlaneWall) → IsSomeRun ls (walls_of walls.now) →
+        AreKeptRuns ls kept.old → AreKeptRuns ls kept.new }
+{
+    // a bend has degree 1 at least
+    if most == 0 {
+        return Ok(());
+    }
+    let power = kept.majorant(alloc, walls, at, x, most)?;
+    add_bends(bends, alloc, at, &power)
 }
 
 /// Appends the bends at a point by the terms of |F|^n of degree at least 1.

@@ -51,7 +51,7 @@ returns-then-has_start-clause-walls c = λ ls h.
     let q = point_of c.args.q.now in
     let f = c.loop-run.found.now in
     let all : IsFoundOn ls (all_walls rs) q (walls_of f) = subst (λ (us : List Wall). IsFoundOn ls us q (walls_of f)) (all-done rs c.loop-run.run-index c.loop-run-test.false) (c.loop-run.invariant.walls ls h) in
-    start-special ls rs q f h all (c.has_start.ensures.0 c.if-has_start.true)
+    start-special ls (all_walls rs) q f (λ w i o. h.all w i) all (c.has_start.ensures.0 c.if-has_start.true)
 
 pub returns-clause-walls : goal.returns-clause-walls
 returns-clause-walls c = λ ls h.
@@ -59,7 +59,7 @@ returns-clause-walls c = λ ls h.
     let q = point_of c.args.q.now in
     let f = c.loop-run.found.now in
     let all : IsFoundOn ls (all_walls rs) q (walls_of f) = subst (λ (us : List Wall). IsFoundOn ls us q (walls_of f)) (all-done rs c.loop-run.run-index c.loop-run-test.false) (c.loop-run.invariant.walls ls h) in
-    found-plain ls rs q f h all (λ s. let t = c.has_start.ensures.1 s in let e = c.if-has_start.false in absurd (cc))
+    found-plain ls (all_walls rs) q f (λ w i o. h.all w i) all (λ s. let t = c.has_start.ensures.1 s in let e = c.if-has_start.false in absurd (cc))
 
 pub returns-clause-order : goal.returns-clause-order
 returns-clause-order c = λ n h. c.loop-run.invariant.order n h

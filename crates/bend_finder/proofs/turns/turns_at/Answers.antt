@@ -1,82 +1,53 @@
-use Rattle.std.proofs.Common.{◌∙◌, ◌+◌, refl, sym, ap, subst, List, [], take, arith}
+use Rattle.std.proofs.Common.{◌<◌, ◌≤◌, ◌++◌, length, subst, take, drop, List}
 use Rattle.std.proofs.lemmas.List.{take_all}
-use Rattle.plane_geom.specs.declared.Point.{Point as CodePoint}
-use Rattle.plane_geom.specs.Shown.{point_of}
 use Rattle.trunc_series.specs.Shown.{exp_of}
 use Rattle.joint_finder.specs.Joints.{points_of}
+use Rattle.bend_finder.specs.declared.marks.Mark.{Mark}
 use Rattle.bend_finder.specs.Ahead.{bends_of}
 use Rattle.bend_finder.specs.Bends.{AreBends, IsFirstSpecial}
-use Rattle.bend_finder.specs.Live.{live_of}
-use Rattle.bend_finder.specs.KeptRuns.{AreKeptRuns}
-use Rattle.bend_finder.proofs.PointBends.{no-bends, special-none, low-none, bends-more, points-more, points-before, bends-along, first-plain, first-special}
-use Rattle.bend_finder.proofs.PowerMajorants.{orders-at_least}
+use Rattle.bend_finder.specs.Marks.{marked, IsFirstCount}
+use Rattle.bend_finder.proofs.SortedMarks.{first-spot, before-first, turned-more, first-at, same-rest, spot-along, before-along}
 use Rattle.bend_finder.proofs.turns.turns_at.Goals as goal
-use Rattle.bend_finder.proofs.turns.turns_at.Goals.{in-None, in-Some+else-most-gt0, in-Some+then-most-gt0+in_ok-power-in-Some+in_ok-add_bends-in-Some}
 
-pub loop-q-init : goal.loop-q-init
-loop-q-init c = record {
-  bends = bends-along c.args.most (live_of c.args.live.now) (exp_of c.args.x) [] [] [] _ refl (ap bends_of c.new-bends.ensures.items) (no-bends c.args.most (live_of c.args.live.now) (exp_of c.args.x));
-  special = λ q i. absurd i;
-  kept = c.requires.kept;
-}
+pub returns-in_err-start-clause-kept : goal.returns-in_err-start-clause-kept
+returns-in_err-start-clause-kept c = λ ls r.
+    let ms = c.args.found.now.marks.items in
+    let rs = c.args.found.now.along.items in
+    let i = c.loop-start.start in
+    let t = c.loop-start.invariant ls r in
+    let spot = spot-along ms c.as_slice-marks.result.now c.as_slice-marks.ensures.value i ls rs c.as_slice-along.result.now c.as_slice-along.ensures.value (first-spot ls c.args.kept.now rs ms r i t.before) in
+    c.add_spot.ensures.kept ls spot t.kept
 
-pub majorant-requires : goal.majorant-requires
-majorant-requires c =
-    let b = c.requires.low in
-    let m = c.requires.most in
-    record {
-      small = c.requires.small;
-      most = omega (arith, b, m);
-      order = orders-at_least c.args.most c.args.live.now.limit c.in-Some.walls.now m c.in-Some.ensures.order;
-    }
-
-pub loop-q-preserved : goal.loop-q-preserved
-loop-q-preserved c =
-    let n = c.args.most in
-    let ls = live_of c.args.live.now in
+pub loop-start-preserved : goal.loop-start-preserved
+loop-start-preserved c = λ ls r.
+    let ms = c.args.found.now.marks.items in
+    let rs = c.args.found.now.along.items in
+    let us = c.as_slice-marks.result.now in
+    let same = c.as_slice-marks.ensures.value in
+    let i = c.loop-start.start in
+    let n = c.in_ok-start.field-0 in
     let x = exp_of c.args.x in
-    let ps = c.args.points.now in
-    let i = c.loop-q.q-index in
-    let r = c.q-item.result in
-    let more = points-more ps i r c.loop-q-test.true c.q-item.is in
-    let before = points-before ps i r c.loop-q-test.true c.q-item.is c.requires.sorted in
-    let bs = bends_of c.loop-q.bends.items in
-    elim c.match-on_plain.branch [
-      | in-Some+then-most-gt0+in_ok-power-in-Some+in_ok-add_bends-in-Some w ↦
-          let plain = w.in-Some.ensures.walls in
-          record {
-            bends = bends-along n ls x _ _ _ _ more (ap (λ v. bends_of v.items) w.bends-is ∙ w.in_ok-add_bends-in-Some.ensures)
-                (bends-more n ls x (point_of r) plain.0 w.in_ok-power-in-Some.power (w.in_ok-power-in-Some.ensures.power ls plain.1 w.in-Some.ensures.run c.loop-q.invariant.kept) (points_of (take i ps)) bs before c.loop-q.invariant.bends);
-            special = subst (IsFirstSpecial ls (take (i + 1) ps)) (sym w.special-is) (first-plain ls (take i ps) (take (i + 1) ps) r more plain.0 c.loop-q.special c.loop-q.invariant.special);
-            kept = subst (AreKeptRuns ls) (sym w.kept-is) (w.in_ok-power-in-Some.ensures.kept ls w.in-Some.ensures.run c.loop-q.invariant.kept);
-          }
-      | in-Some+else-most-gt0 w ↦
-          let plain = w.in-Some.ensures.walls in
-          let low = w.if-most-gt0.false in
-          record {
-            bends = bends-along n ls x _ _ _ _ more (ap (λ v. bends_of v.items) w.bends-is) (low-none n ls x (points_of (take i ps)) (point_of r) bs (omega (arith, low)) c.loop-q.invariant.bends);
-            special = subst (IsFirstSpecial ls (take (i + 1) ps)) (sym w.special-is) (first-plain ls (take i ps) (take (i + 1) ps) r more plain.0 c.loop-q.special c.loop-q.invariant.special);
-            kept = subst (AreKeptRuns ls) (sym w.kept-is) c.loop-q.invariant.kept;
-          }
-      | in-None w ↦
-          let s = w.in-None.ensures.walls in
-          record {
-            bends = bends-along n ls x _ _ _ _ more (ap (λ v. bends_of v.items) w.bends-is) (special-none n ls x (points_of (take i ps)) (point_of r) bs s c.loop-q.invariant.bends);
-            special = subst (IsFirstSpecial ls (take (i + 1) ps)) (sym (w.special-is ∙ w.or-special.ensures)) (first-special ls (take i ps) (take (i + 1) ps) r more s before c.loop-q.special c.loop-q.invariant.special);
-            kept = subst (AreKeptRuns ls) (sym w.kept-is) c.loop-q.invariant.kept;
-          }
-    ]
+    let bs = bends_of c.add_spot.new.self.bends.items in
+    let o = c.add_spot.new.self.special in
+    let t = c.loop-start.invariant ls r in
+    let spot = spot-along ms us same i ls rs c.as_slice-along.result.now c.as_slice-along.ensures.value (first-spot ls c.args.kept.now rs ms r i t.before) in
+    let before = before-along ms us same i (points_of (marked (take i ms))) (before-first ls c.args.kept.now rs ms r i t.before) in
+    let first = first-at ms i (subst (λ (vs : List Mark). i < length vs) same c.loop-start-test.true) in
+    let count : IsFirstCount (drop i ms) n = subst (λ (vs : List Mark). IsFirstCount vs n) (same-rest ms us same i) c.in_ok-start.ensures.count in
+    turned-more ls c.args.kept.now rs ms r i t.before n first.0 first.1 first.2 (count.1 first.0 first.1 first.2) c.args.most x bs o c.add_spot.new.kept
+    (subst (λ (vs : List Mark). AreBends c.args.most ls x (points_of (marked (take i ms)) ++ points_of (marked (take n vs))) bs) (same-rest ms us same i) (c.in_ok-start.ensures.bends ls (points_of (marked (take i ms))) spot t.kept before t.bends))
+    (subst (λ (vs : List Mark). IsFirstSpecial ls (marked (take i ms) ++ marked (take n vs)) o) (same-rest ms us same i) (c.in_ok-start.ensures.special ls (marked (take i ms)) spot before t.special))
+    (c.in_ok-start.ensures.kept ls spot t.kept)
 
 pub returns-clause-bends : goal.returns-clause-bends
-returns-clause-bends c =
-    subst (λ (ps : List CodePoint). AreBends c.args.most (live_of c.args.live.now) (exp_of c.args.x) (points_of ps) (bends_of c.loop-q.bends.items)) (take_all c.loop-q.q-index c.args.points.now c.loop-q-test.false) c.loop-q.invariant.bends
+returns-clause-bends c = λ ls r.
+    let ms = c.args.found.now.marks.items in
+    subst (λ (us : List Mark). AreBends c.args.most ls (exp_of c.args.x) (points_of (marked us)) (bends_of c.loop-start.turns.bends.items)) (take_all c.loop-start.start ms (subst (λ (vs : List Mark). length vs ≤ c.loop-start.start) c.as_slice-marks.ensures.value c.loop-start-test.false)) (c.loop-start.invariant ls r).bends
 
 pub returns-clause-special : goal.returns-clause-special
-returns-clause-special c =
-    subst (λ (ps : List CodePoint). IsFirstSpecial (live_of c.args.live.now) ps c.loop-q.special) (take_all c.loop-q.q-index c.args.points.now c.loop-q-test.false) c.loop-q.invariant.special
+returns-clause-special c = λ ls r.
+    let ms = c.args.found.now.marks.items in
+    subst (λ (us : List Mark). IsFirstSpecial ls (marked us) c.loop-start.turns.special) (take_all c.loop-start.start ms (subst (λ (vs : List Mark). length vs ≤ c.loop-start.start) c.as_slice-marks.ensures.value c.loop-start-test.false)) (c.loop-start.invariant ls r).special
 
-pub returns-in_err-power-in-Some-clause-kept : goal.returns-in_err-power-in-Some-clause-kept
-returns-in_err-power-in-Some-clause-kept c = c.majorant.ensures.kept (live_of c.args.live.now) c.in-Some.ensures.run c.loop-q.invariant.kept
-
-pub returns-in_err-add_bends-in-Some-clause-kept : goal.returns-in_err-add_bends-in-Some-clause-kept
-returns-in_err-add_bends-in-Some-clause-kept c = c.majorant.ensures.kept (live_of c.args.live.now) c.in-Some.ensures.run c.loop-q.invariant.kept
+pub returns-clause-kept : goal.returns-clause-kept
+returns-clause-kept c = λ ls r. (c.loop-start.invariant ls r).kept
