@@ -1,7 +1,9 @@
 // The real outside: a source over std's reader and a sink over std's writer. They tell of their bytes
 // what the reader and the writer state of themselves, as bytes in memory do and standard input doesn't.
 
-ghost use Rattle.std.specs.Prelude.{◌≡◌};
+ghost use Rattle.std.specs.Prelude.{◌≡◌, ◌<◌, ◌≤◌, length, IfOk, OnErr};
+ghost use Rattle.outside_io.specs.Memory.{counted};
+ghost use Rattle.outside_io.specs.Outside.{HasCause, GivesWhereTold, TakesWhereTold, KeepsWhereTold};
 
 use crate::{Failed, Sink, Source, fail};
 use std::io::{Read, Write};
@@ -37,7 +39,15 @@ impl<R: Read> Source for StdSource<R> {
 
     ghost faults = { λ s. s.faults };
 
-    fn read(&mut self, into: &mut [u8]) -> Result<usize, Failed> {
+    fn read(&mut self, into: &mut [u8]) -> Result<usize, Failed>
+        requires { 0 < length into.old }
+        ensures within { IfOk result (λ n. n ≤ length into.new) }
+        ensures bytes { IfOk result (λ n. GivesWhereTold self.old.left self.new.left into.new n) }
+        ensures unchanged { OnErr result (KeepsWhereTold self.old.left self.new.left) }
+        ensures cause { HasCause self.old.faults self.new.faults result }
+        // A failed call is one fault, whatever the reader did.
+        ensures counted { OnErr result (self.new.faults ≡ counted self.old.faults) }
+    {
         match self.reader.read(into) {
             Ok(n) => Ok(n),
             Err(_) => fail(&mut self.failed),
@@ -75,7 +85,16 @@ impl<W: Write> Sink for StdSink<W> {
 
     ghost faults = { λ s. s.faults };
 
-    fn write(&mut self, piece: &[u8]) -> Result<usize, Failed> {
+    fn write(&mut self, piece: &[u8]) -> Result<usize, Failed>
+        requires { 0 < length piece.now }
+        ensures within { IfOk result (λ n. n ≤ length piece.now) }
+        ensures some { IfOk result (λ n. 0 < n) }
+        ensures bytes { IfOk result (λ n. TakesWhereTold self.old.held self.new.held piece.now n) }
+        ensures unchanged { OnErr result (KeepsWhereTold self.old.held self.new.held) }
+        ensures cause { HasCause self.old.faults self.new.faults result }
+        // A failed call is one fault, whatever the writer did.
+        ensures counted { OnErr result (self.new.faults ≡ counted self.old.faults) }
+    {
         match self.writer.write(piece) {
             Ok(n) if n > 0 => Ok(n),
             _ => fail(&mut self.failed),
