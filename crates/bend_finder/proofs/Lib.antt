@@ -15,6 +15,7 @@ pub mod KeptRuns
 pub mod TakenPowers
 pub mod TermMasses
 pub mod PointBends
+mod LowTerms
 mod MarkedSpots
 mod SortedMarks
 pub mod Found

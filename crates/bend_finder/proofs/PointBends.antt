@@ -137,17 +137,9 @@ pub bends-along : (n : ℕ) (ls : List Wall) (x : Exp) (qs rs : List Point) (bs 
 bends-along n ls x qs rs bs cs e f h = subst (λ (us : List Point). AreBends n ls x us cs) (sym e) (subst (AreBends n ls x qs) (sym f) h)
 
 -- where no degree is left, no point has one
-pub low-none : (n : ℕ) (ls : List Wall) (x : Exp) (qs : List Point) (q : Point) (bs : List (Bend × ℕ)) → n < 1 → AreBends n ls x qs bs → AreBends n ls x (qs ++ q ∷ []) bs
-low-none n ls x qs q bs low k = record {
-  each = Every-implies _ (λ c. In c.0.at (qs ++ q ∷ []) × IsTurn n ls x c.0) bs (λ c o. (In-left qs (q ∷ []) c.0.at o.0, o.1)) k.each;
-  all = λ c i o. let s = o.some in let m = o.most in absurd (omega (arith, low, s, m));
-  told = k.told;
-  sorted = k.sorted;
-}
-
--- a special point has none
-pub special-none : (n : ℕ) (ls : List Wall) (x : Exp) (qs : List Point) (q : Point) (bs : List (Bend × ℕ)) → is_special ls q ≡ true → AreBends n ls x qs bs → AreBends n ls x (qs ++ q ∷ []) bs
-special-none n ls x qs q bs s k = record {
+-- no bend is at one point more
+pub turnless-more : (n : ℕ) (ls : List Wall) (x : Exp) (qs : List Point) (q : Point) (bs : List (Bend × ℕ)) → ((c : Bend) → c.at ≡ q → IsTurn n ls x c → ⊥) → AreBends n ls x qs bs → AreBends n ls x (qs ++ q ∷ []) bs
+turnless-more n ls x qs q bs none k = record {
   each = Every-implies _ (λ c. In c.0.at (qs ++ q ∷ []) × IsTurn n ls x c.0) bs (λ c o. (In-left qs (q ∷ []) c.0.at o.0, o.1)) k.each;
   all = λ c i o. all c o (In-append qs (q ∷ []) c.at i);
   told = k.told;
@@ -156,8 +148,14 @@ special-none n ls x qs q bs s k = record {
   where
     all : (c : Bend) → IsTurn n ls x c → In c.at qs ⊎ In c.at (q ∷ []) → In c (map (λ (b : Bend × ℕ). b.0) bs)
     all c o (inl i) = k.all c i o
-    all c o (inr (inl e)) = let p = o.plain in let f : is_special ls c.at ≡ true = subst (λ (r : Point). is_special ls r ≡ true) (sym e) s in absurd (cc)
+    all c o (inr (inl e)) = absurd (none c e o)
     all c o (inr (inr f)) = absurd f
+
+pub special-none : (n : ℕ) (ls : List Wall) (x : Exp) (qs : List Point) (q : Point) (bs : List (Bend × ℕ)) → is_special ls q ≡ true → AreBends n ls x qs bs → AreBends n ls x (qs ++ q ∷ []) bs
+special-none n ls x qs q bs s k = turnless-more n ls x qs q bs none k
+  where
+    none : (c : Bend) → c.at ≡ q → IsTurn n ls x c → ⊥
+    none c e o = let p = o.plain in let f : is_special ls c.at ≡ true = subst (λ (r : Point). is_special ls r ≡ true) (sym e) s in absurd (cc)
 
 -- ---- a list of points, one after another
 

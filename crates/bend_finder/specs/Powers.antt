@@ -1,8 +1,8 @@
 -- Powers at a point, for the product F of the functions of the live walls there.
 --     power_majorant n ls q i, power_series n ls q i     |F|^i and F^i
-use Rattle.std.specs.Prelude.{ℕ, ◌≤◌, List, ◌∷◌, map}
-use Rattle.scattering.specs.Collections.{Every}
-use Rattle.scattering.specs.Series.{Sum, absolute, pow}
+use Rattle.std.specs.Prelude.{ℕ, ◌<◌, ◌≤◌, List, ◌∷◌, map}
+use Rattle.scattering.specs.Collections.{In, Every}
+use Rattle.scattering.specs.Series.{Sum, Term, absolute, degree, pow, rest}
 use Rattle.scattering.specs.Plane.{Point}
 use Rattle.scattering.specs.Wall.{Wall}
 use Rattle.scattering.specs.BrokenLine.{live_on, product}
@@ -13,6 +13,13 @@ use Rattle.scatter_diagram.specs.declared.wall.Wall.{Wall as CodeWall}
 -- the functions are of order n at least
 abbrev pub AreAtLeast : ℕ → List CodeWall → Type 0
 AreAtLeast n ws = Every (λ w. n ≤ w.function.order) ws
+
+-- the function has no term of degree at most n other than 1
+abbrev pub HasNoneTo : ℕ → Wall → Type 0
+HasNoneTo n w = (t : Term) → In t (rest w.function) → n < degree t.0
+
+abbrev pub HaveNoneTo : ℕ → List Wall → Type 0
+HaveNoneTo n ws = (w : Wall) → In w ws → HasNoneTo n w
 
 -- |f| for the functions of the live walls on q
 abbrev pub functions_on : List Wall → Point → List Sum

@@ -1,6 +1,6 @@
 // The bends at points.
 
-ghost use Rattle.std.specs.Prelude.{◌≡◌, ℕ, ◌<◌, ◌≤◌, ◌++◌, ◌∷◌, [], IfOk, OnOk, IsTrue, List, length, take};
+ghost use Rattle.std.specs.Prelude.{◌≡◌, ℕ, ◌<◌, ◌≤◌, ◌++◌, ◌∷◌, [], IfOk, OnOk, IsTrue, IsFalse, List, length, take};
 ghost use Rattle.limits.specs.Limits.{highest_order};
 ghost use Rattle.scattering.specs.Collections.{Every};
 ghost use Rattle.scattering.specs.Plane.{Point as PlanePoint, point_before};
@@ -8,13 +8,13 @@ ghost use Rattle.scattering.specs.Wall.{Wall as PlaneWall};
 ghost use Rattle.plane_geom.specs.Shown.{point_of};
 ghost use Rattle.plane_geom.specs.declared.Point.{Point};
 ghost use Rattle.trunc_series.specs.Shown.{exp_of};
-ghost use Rattle.scatter_diagram.specs.Shown.{walls_of};
+ghost use Rattle.scatter_diagram.specs.Shown.{wall_of, walls_of};
 ghost use Rattle.joint_finder.specs.Joints.{points_of};
 ghost use Rattle.bend_finder.specs.Ahead.{IsTraceable, bends_of};
 ghost use Rattle.bend_finder.specs.Bends.{AreBends, told_bends, IsFirstSpecial};
 ghost use Rattle.bend_finder.specs.KeptRuns.{AreKeptRuns, IsSomeRun};
 ghost use Rattle.bend_finder.specs.Marks.{marked, AreLinesAhead, AreOfOrderAhead, AreReadyMarks, AreBeforeFirst, IsFirstCount, IsFirstSpot};
-ghost use Rattle.bend_finder.specs.Powers.{AreAtLeast};
+ghost use Rattle.bend_finder.specs.Powers.{AreAtLeast, HasNoneTo, HaveNoneTo};
 ghost use Rattle.bend_finder.specs.Runs.{IsPlainOn};
 
 use crate::bend::Bend;
@@ -136,12 +136,34 @@ fn add_turns(
     ensures kept { (ls : List PlaneWall) → IsSomeRun ls (walls_of walls.now) →
         AreKeptRuns ls kept.old → AreKeptRuns ls kept.new }
 {
-    // a bend has degree 1 at least
-    if most == 0 {
+    if !has_term(walls, most) {
         return Ok(());
     }
     let power = kept.majorant(alloc, walls, at, x, most)?;
     add_bends(bends, alloc, at, &power)
+}
+
+/// Whether the function of one of the walls has a term of degree at most `most` other than 1, which any bend of such a
+/// degree comes from.
+fn has_term(walls: &[Wall], most: u32) -> bool
+    ensures { IsFalse result → HaveNoneTo most (walls_of walls.now) }
+{
+    for w in walls {
+        if begins_by(w, most) {
+            return true;
+        }
+    }
+    false
+}
+
+/// Whether its function has.
+fn begins_by(w: &Wall, most: u32) -> bool
+    ensures { IsFalse result → HasNoneTo most (wall_of w.now) }
+{
+    match w.least_degree() {
+        Some(least) => least <= most,
+        None => false,
+    }
 }
 
 /// Appends the bends at a point by the terms of |F|^n of degree at least 1.

@@ -1,14 +1,18 @@
-use Rattle.std.proofs.Common.{refl, arith, ◌++◌, ◌∷◌, []}
+use Rattle.std.proofs.Common.{refl, ◌++◌, ◌∷◌, []}
 use Rattle.plane_geom.specs.Shown.{point_of}
 use Rattle.trunc_series.specs.Shown.{exp_of}
+use Rattle.scatter_diagram.specs.Shown.{walls_of}
 use Rattle.bend_finder.specs.Ahead.{bends_of}
 use Rattle.bend_finder.specs.Bends.{AreBends}
 use Rattle.bend_finder.proofs.Outcomes.{on-ok}
-use Rattle.bend_finder.proofs.PointBends.{low-none, bends-along, bends-more}
+use Rattle.bend_finder.proofs.PointBends.{turnless-more, bends-along, bends-more}
+use Rattle.bend_finder.proofs.LowTerms.{turnless}
 use Rattle.bend_finder.proofs.turns.add_turns.Goals as goal
 
-pub returns-then-most-eq0-clause-bends : goal.returns-then-most-eq0-clause-bends
-returns-then-most-eq0-clause-bends c = λ ls qs p r k b h. let e = c.if-most-eq0.true in low-none c.args.most ls (exp_of c.args.x) qs (point_of c.args.at.now) _ (omega (arith, e)) h
+pub returns-then-not-has_term-clause-bends : goal.returns-then-not-has_term-clause-bends
+returns-then-not-has_term-clause-bends c = λ ls qs p r k b h.
+    turnless-more c.args.most ls (exp_of c.args.x) qs (point_of c.args.at.now) (bends_of c.args.bends.now.items)
+    (turnless c.args.most ls (walls_of c.args.walls.now) (point_of c.args.at.now) (exp_of c.args.x) p.1 (c.has_term.ensures (let t = c.if-not-has_term.true in cc))) h
 
 pub returns-clause-bends : goal.returns-clause-bends
 returns-clause-bends c = λ ls qs p r k b h.
