@@ -19,7 +19,7 @@ use theta_algebra::{Answer, Query, QueryKind, Reply};
 use trunc_series::{Exp, Key};
 
 // t1^i·t2^j·z^(a, b)
-const fn monomial(i: u8, j: u8, a: i32, b: i32) -> Key {
+pub(crate) const fn monomial(i: u8, j: u8, a: i32, b: i32) -> Key {
     Key {
         exp: Exp { a, b },
         powers: [i, j, 0, 0, 0, 0, 0, 0],
@@ -27,7 +27,7 @@ const fn monomial(i: u8, j: u8, a: i32, b: i32) -> Key {
 }
 
 // The theta of m at a point, in the order `least` or a later one.
-fn theta_of(m: Exp, at: Point, least: Option<u32>) -> Query
+pub(crate) fn theta_of(m: Exp, at: Point, least: Option<u32>) -> Query
     requires { IsFactorExp m }
     ensures { IsQuery result }
 {
@@ -39,7 +39,7 @@ fn theta_of(m: Exp, at: Point, least: Option<u32>) -> Query
 }
 
 // Whether an answer's reply is the series of the answer's order with these terms.
-fn is_theta(answer: &Answer, terms: &[(Key, i128)]) -> bool {
+pub(crate) fn is_theta(answer: &Answer, terms: &[(Key, i128)]) -> bool {
     match &answer.result {
         Ok(Reply::Series(s)) => s.order() == answer.order && s.terms() == terms,
         _ => false,
@@ -58,7 +58,7 @@ fn is_theta_alone(answer: &Answer, m: Exp) -> bool {
 }
 
 // Whether it is this fault.
-fn is_fault(answer: &Answer, fault: AskFault) -> bool {
+pub(crate) fn is_fault(answer: &Answer, fault: AskFault) -> bool {
     match answer.result {
         Ok(_) => false,
         Err(found) => found == fault,

@@ -1,7 +1,11 @@
-//! Tests of the store of published orders, and of asks at them, by the first orders of two lines.
+//! Tests of the store of published orders, of asks at them, and of sessions, by the first orders of two lines.
 #![tactic(auto)]
 
 #[cfg(test)]
 mod asks;
 #[cfg(test)]
 mod epochs;
+#[cfg(test)]
+mod gates;
+#[cfg(test)]
+mod sessions;

@@ -1,0 +1,4 @@
+pub mod Session
+pub mod Seats
+pub mod Gathered
+pub mod Published
