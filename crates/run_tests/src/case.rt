@@ -5,6 +5,7 @@ ghost use Rattle.std.specs.Prelude.{◌≡◌, ◌<◌, ◌-◌, ◌^◌, IfOk};
 use outside_io::{Gate, MemSink, MemSource, OpenGate, Sink, Source};
 use scatter_run::{Status, run};
 use std::alloc::{AllocError, Global};
+use std::sync::Wait;
 use std::thread::Threads;
 
 /// A run: what it is an example of, its words and its input, and how it must end.
@@ -29,7 +30,7 @@ fn words_of(alloc: Global, command: &str) -> Result<Vec<String>, AllocError> {
 }
 
 /// Whether a run from the source to the sink under this gate ends with this status.
-pub fn ends_with<R: Threads + Sync, S: Source, K: Sink, G: Gate>(
+pub fn ends_with<R: Threads + Wait + Sync, S: Source, K: Sink, G: Gate>(
     rt: &R,
     command: (Global, &str),
     source: &mut S,
@@ -46,7 +47,7 @@ pub fn ends_with<R: Threads + Sync, S: Source, K: Sink, G: Gate>(
 }
 
 /// Whether a run from the source to the sink ends with this status, and the sink then holds this.
-pub fn prints<R: Threads + Sync, S: Source>(
+pub fn prints<R: Threads + Wait + Sync, S: Source>(
     rt: &R,
     command: (Global, &str),
     source: &mut S,
@@ -77,7 +78,11 @@ pub fn sink_of(alloc: Global, fails: u64) -> Result<MemSink, AllocError>
 }
 
 /// Whether a run of the case, with no failure, ends and prints as it must.
-fn is_met<R: Threads + Sync>(rt: &R, alloc: Global, case: &Case) -> Result<bool, AllocError> {
+fn is_met<R: Threads + Wait + Sync>(
+    rt: &R,
+    alloc: Global,
+    case: &Case,
+) -> Result<bool, AllocError> {
     let mut source = source_of(alloc, case.input, 0)?;
     let mut sink = sink_of(alloc, 0)?;
     let told = (case.status, case.output.as_bytes());
@@ -85,7 +90,7 @@ fn is_met<R: Threads + Sync>(rt: &R, alloc: Global, case: &Case) -> Result<bool,
 }
 
 /// What the first case stands for that doesn't end and print as it must, if there is one.
-pub fn first_unmet<R: Threads + Sync>(
+pub fn first_unmet<R: Threads + Wait + Sync>(
     rt: &R,
     alloc: Global,
     cases: &[Case],

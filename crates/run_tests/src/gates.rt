@@ -5,12 +5,23 @@ use crate::inputs::THREE_LINES;
 use outside_io::Gate;
 use scatter_run::Status;
 use std::alloc::{AllocError, Global};
+use std::sync::Wait;
 use std::sync::atomic::{AtomicBool, AtomicU64, Ordering};
 use std::test::Fail;
 use std::thread::{Threads, yield_now};
 
-/// The most turns that a worker is held.
+/// The most turns that anyone is held.
 const MOST_TURNS: u32 = 50_000_000;
+
+/// Waits for this to be seen, for so many turns at most.
+pub fn hold_until(seen: &AtomicBool) {
+    for _ in 0..MOST_TURNS {
+        if seen.load(Ordering::SeqCst) {
+            return;
+        }
+        yield_now();
+    }
+}
 
 /// Holds task 0 of an order until so many other tasks of it were begun.
 #[derive(Drop)]
@@ -64,7 +75,7 @@ impl Gate for HoldsFirst {
 
 /// Whether the others of these tasks of the order are begun by one of two workers while the other worker
 /// is held at task 0.
-fn come_in_time<R: Threads + Sync>(
+fn come_in_time<R: Threads + Wait + Sync>(
     rt: &R,
     command: (Global, &str),
     order: u32,

@@ -5,6 +5,7 @@ use crate::inputs::TWO_LINES;
 use outside_io::{MemSink, OpenGate};
 use scatter_run::Status;
 use std::alloc::{AllocError, Global};
+use std::sync::Wait;
 use std::test::Fail;
 use std::thread::Threads;
 
@@ -65,7 +66,7 @@ fn count_of(text: &[u8], word: &[u8]) -> usize {
 
 /// Whether the completion of these lines at order 4 is printed with so many rays, and so many terms of
 /// lines and rays.
-fn has_counts<R: Threads + Sync>(
+fn has_counts<R: Threads + Wait + Sync>(
     rt: &R,
     alloc: Global,
     input: &str,

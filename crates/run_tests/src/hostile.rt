@@ -11,6 +11,7 @@ use scatter_text::TextKind;
 use std::alloc::{AllocError, Global};
 use std::io;
 use std::io::{Error, ErrorKind, Read, Write};
+use std::sync::Wait;
 use std::test::Fail;
 use std::thread::Threads;
 
@@ -50,18 +51,36 @@ ask 1 theta -1 -1 at 2 1
 settle
 end
 ",
-    output: "answers 1
+    output: THETA_AT_ORDER_2,
+};
+
+// The ask waits for the last order, so it has one answer.
+const SESSION: Job = Job {
+    words: "session 2 1 1",
+    input: "scatter 1
+vars 2
+line 1 0 at 0 0
+term 1 1 1 0
+line 0 1 at 0 0
+term 1 1 0 1
+settle
+ask 1 theta -1 -1 at 2 1
+end
+",
+    output: THETA_AT_ORDER_2,
+};
+
+const THETA_AT_ORDER_2: &str = "answers 1
 published 2
 answer 1 order 2 series
 term 1 -1 -1 0 0
 term 1 -1 0 0 1
 term 1 0 -1 1 0
 end
-",
-};
+";
 
 /// Whether the words refuse this text at this line, where it ends early.
-fn ends_early<R: Threads + Sync>(
+fn ends_early<R: Threads + Wait + Sync>(
     rt: &R,
     command: (Global, &str),
     text: &[u8],
@@ -82,7 +101,7 @@ fn ends_early<R: Threads + Sync>(
 
 /// Whether every proper prefix of the job's input is refused: at the line after its last, where it ends with
 /// a whole line, else at the line that isn't finished.
-fn prefixes_are_refused<R: Threads + Sync>(
+fn prefixes_are_refused<R: Threads + Wait + Sync>(
     rt: &R,
     alloc: Global,
     job: &Job,
@@ -111,12 +130,14 @@ fn inputs_that_end_early_are_told(rt: HostRuntime) -> Result<(), Fail> {
     assert!(rt; complete);
     let theta = prefixes_are_refused(&rt, alloc, &THETA)?;
     assert!(rt; theta);
+    let session = prefixes_are_refused(&rt, alloc, &SESSION)?;
+    assert!(rt; session);
     Ok(())
 }
 
 /// Whether the job ends so and leaves this in the sink, where the read and the write of these numbers fail;
 /// none does where the number is 0.
-fn ends_where_calls_fail<R: Threads + Sync>(
+fn ends_where_calls_fail<R: Threads + Wait + Sync>(
     rt: &R,
     alloc: Global,
     job: &Job,
@@ -131,7 +152,7 @@ fn ends_where_calls_fail<R: Threads + Sync>(
 
 /// Whether a write that fails leaves the lines before it, for each call in turn, and none comes after the
 /// last line.
-fn lines_before_a_failed_write_are_held<R: Threads + Sync>(
+fn lines_before_a_failed_write_are_held<R: Threads + Wait + Sync>(
     rt: &R,
     alloc: Global,
     job: &Job,
@@ -159,11 +180,13 @@ fn a_failed_write_leaves_whole_lines(rt: HostRuntime) -> Result<(), Fail> {
     assert!(rt; complete);
     let theta = lines_before_a_failed_write_are_held(&rt, alloc, &THETA)?;
     assert!(rt; theta);
+    let session = lines_before_a_failed_write_are_held(&rt, alloc, &SESSION)?;
+    assert!(rt; session);
     Ok(())
 }
 
 /// Whether a first and a second read that fail are told, also where the first write fails too.
-fn failed_reads_are_told<R: Threads + Sync>(
+fn failed_reads_are_told<R: Threads + Wait + Sync>(
     rt: &R,
     alloc: Global,
     job: &Job,
@@ -183,6 +206,8 @@ fn a_failed_read_is_told(rt: HostRuntime) -> Result<(), Fail> {
     assert!(rt; complete);
     let theta = failed_reads_are_told(&rt, alloc, &THETA)?;
     assert!(rt; theta);
+    let session = failed_reads_are_told(&rt, alloc, &SESSION)?;
+    assert!(rt; session);
     Ok(())
 }
 
@@ -417,7 +442,10 @@ fn writers_are_told_apart(rt: HostRuntime) -> Result<(), Fail> {
 
 /// Whether a run over std's adapters reads all of an input that comes in two pieces, and goes on where the
 /// writer takes one byte.
-fn short_calls_lose_nothing<R: Threads + Sync>(rt: &R, alloc: Global) -> Result<bool, AllocError> {
+fn short_calls_lose_nothing<R: Threads + Wait + Sync>(
+    rt: &R,
+    alloc: Global,
+) -> Result<bool, AllocError> {
     let reader = ListedReader {
         calls: &[
             Given::Piece("scatter 1\nvars 2\nl"),

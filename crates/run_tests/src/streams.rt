@@ -8,12 +8,13 @@ use outside_io::{Failed, MemSource, OpenGate, Source};
 use scatter_run::{Status, complete_job};
 use scatter_text::LimitKind;
 use std::alloc::{AllocError, Global};
+use std::sync::Wait;
 use std::test::Fail;
 use std::thread::Threads;
 
 /// Whether `complete 4 2` on these bytes ends so and prints this, where the reads and the writes with
 /// these numbers fail.
-fn is_told<R: Threads + Sync>(
+fn is_told<R: Threads + Wait + Sync>(
     rt: &R,
     alloc: Global,
     fails: (u64, u64),
@@ -60,7 +61,10 @@ impl Source for Trickle {
 }
 
 /// Whether an input that comes byte by byte is completed as one that comes whole.
-fn small_pieces_count_whole<R: Threads + Sync>(rt: &R, alloc: Global) -> Result<bool, AllocError> {
+fn small_pieces_count_whole<R: Threads + Wait + Sync>(
+    rt: &R,
+    alloc: Global,
+) -> Result<bool, AllocError> {
     let rest = source_of(alloc, TWO_LINES, 0)?;
     let mut source = Trickle { rest };
     let mut sink = sink_of(alloc, 0)?;
@@ -69,7 +73,10 @@ fn small_pieces_count_whole<R: Threads + Sync>(rt: &R, alloc: Global) -> Result<
 }
 
 /// Whether an input of one byte too many is refused by its length.
-fn one_byte_too_many_is_told<R: Threads + Sync>(rt: &R, alloc: Global) -> Result<bool, AllocError> {
+fn one_byte_too_many_is_told<R: Threads + Wait + Sync>(
+    rt: &R,
+    alloc: Global,
+) -> Result<bool, AllocError> {
     let input = vec![in alloc; b'\n'; 1048577]?;
     let mut source = MemSource::new(input, Vec::new(alloc));
     let mut sink = sink_of(alloc, 0)?;

@@ -4,7 +4,7 @@ use Rattle.std.specs.Prelude.{Option, Some, None}
 use Rattle.limits.specs.Limits.{highest_order, most_bytes}
 use Rattle.scattering.specs.Wall.{Wall, cut_walls}
 use Rattle.scattering.specs.Completion.{IsCompletion}
-use Rattle.scattering.specs.Stops.{IsFirstStop, last_before}
+use Rattle.scattering.specs.Stops.{StopCause, IsFirstStop, last_before}
 use Rattle.completion_theory.proofs.CutGiven.{completion-of_cut, first_stop-of_cut}
 use Rattle.scatter_diagram.specs.declared.stop.StopCause.{StopCause as CodeCause}
 use Rattle.scatter_diagram.specs.Listed.{SeenInitial}
@@ -18,10 +18,10 @@ use Rattle.scatter_run.specs.Completed.{IsLastCompletion, IsCompletedText, IsSum
 use Rattle.scatter_run.specs.Generated.{generated_lines, generated_order, summary_text}
 use Rattle.scatter_run.specs.declared.form.Form.{Form}
 use Rattle.scatter_run.specs.Form.{IsFileIn, IsPrintedIn}
-use Rattle.scatter_text.specs.Limits.{limit_of}
+use Rattle.scatter_text.specs.Limits.{first_limit}
 use Rattle.scatter_run.specs.declared.status.Status.{Status}
 use Rattle.scatter_run.specs.declared.status.Status.TheVariants.{Done, Words, Text, Json, Limit, Stopped, ReadFault, WriteFault, Memory}
-use Rattle.scatter_run.specs.Outcome.{IsEnded, IsFormOutcome, IsGenerateOutcome, ends_with}
+use Rattle.scatter_run.specs.Outcome.{IsEnded, IsOutcomeIn, IsRefusedIn, IsGenerateOutcome, ends_with}
 use Rattle.scatter_run.proofs.OneOutcome.{last-low}
 
 pub last-completion : (file : TextFile) (order : ℕ) (i : SeenInitial) (o : Outcome) → order ≤ highest_order → IsInitialOf file i → IsOutcome i order o
@@ -40,8 +40,12 @@ last-completion file order i o low is out =
 
 -- ---- a completion in a form
 
+pub ended-by : (Prints : Option (ℕ × StopCause) → List ℕ → Type 0) (stop : Option (ℕ × CodeCause)) (text : List ℕ) → Prints (stop_of stop) text → IsEnded Prints (ends_with stop) text
+ended-by Prints None text h = h
+ended-by Prints (Some s) text h = h
+
 completed-text : (form : Form) (file : TextFile) (order : ℕ) (i : SeenInitial) (o : Outcome) (text : List ℕ) → order ≤ highest_order → IsInitialOf file i → IsOutcome i order o
-    → IsPrintedIn form file.asks i.vars o.last.order o.last.diagram (stop_of o.stop) text → IsCompletedText form file order (stop_of o.stop) text
+    → IsPrintedIn form file.asks i.vars o.last.order o.last.diagram (stop_of o.stop) text → IsCompletedText form order file (stop_of o.stop) text
 completed-text form file order i o text low is out t = record {
   vars = i.vars;
   diagram = o.last.diagram;
@@ -50,25 +54,37 @@ completed-text form file order i o text low is out t = record {
   printed = subst (λ (n : ℕ). IsPrintedIn form file.asks i.vars n o.last.diagram (stop_of o.stop) text) out.order t;
 }
 
-ended-by : (form : Form) (file : TextFile) (order : ℕ) (stop : Option (ℕ × CodeCause)) (text : List ℕ) → IsCompletedText form file order (stop_of stop) text → IsEnded form file order (ends_with stop) text
-ended-by form file order None text h = h
-ended-by form file order (Some s) text h = h
-
 pub ended : (form : Form) (file : TextFile) (order : ℕ) (i : SeenInitial) (o : Outcome) (text : List ℕ) → order ≤ highest_order → IsInitialOf file i → IsOutcome i order o
-    → IsPrintedIn form file.asks i.vars o.last.order o.last.diagram (stop_of o.stop) text → IsEnded form file order (ends_with o.stop) text
-ended form file order i o text low is out t = ended-by form file order o.stop text (completed-text form file order i o text low is out t)
+    → IsPrintedIn form file.asks i.vars o.last.order o.last.diagram (stop_of o.stop) text → IsEnded (IsCompletedText form order file) (ends_with o.stop) text
+ended form file order i o text low is out t = ended-by (IsCompletedText form order file) o.stop text (completed-text form file order i o text low is out t)
 
--- so it is the outcome of bytes that say the file
-pub job-outcome : (form : Form) (order : ℕ) (bytes : List ℕ) (file : TextFile) (status : Status) (text : List ℕ) → length bytes ≤ most_bytes → IsFileIn form bytes file → limit_of file order ≡ None → IsEnded form file order status text → IsFormOutcome form order bytes status text
-job-outcome form order bytes file Done text short reads within h = record { short = short; file = file; reads = reads; within = within; completed = h }
-job-outcome form order bytes file Words text short reads within h = absurd h
-job-outcome form order bytes file (Text line kind) text short reads within h = absurd h
-job-outcome form order bytes file (Json kind) text short reads within h = absurd h
-job-outcome form order bytes file (Limit kind) text short reads within h = absurd h
-job-outcome form order bytes file (Stopped at cause) text short reads within h = record { short = short; file = file; reads = reads; within = within; completed = h }
-job-outcome form order bytes file ReadFault text short reads within h = absurd h
-job-outcome form order bytes file WriteFault text short reads within h = absurd h
-job-outcome form order bytes file Memory text short reads within h = absurd h
+-- ---- the outcome of bytes, by what is found of them
+
+-- they say a file, of which something is printed
+pub ended-outcome : (form : Form) (order readers : ℕ) (Prints : TextFile → Option (ℕ × StopCause) → List ℕ → Type 0) (bytes : List ℕ) (file : TextFile) (status : Status) (text : List ℕ)
+    → length bytes ≤ most_bytes → IsFileIn form bytes file → first_limit file order readers ≡ None → IsEnded (Prints file) status text → IsOutcomeIn form order readers Prints bytes status text
+ended-outcome form order readers Prints bytes file Done text short reads within h = record { short = short; file = file; reads = reads; within = within; printed = h }
+ended-outcome form order readers Prints bytes file Words text short reads within h = absurd h
+ended-outcome form order readers Prints bytes file (Text line kind) text short reads within h = absurd h
+ended-outcome form order readers Prints bytes file (Json kind) text short reads within h = absurd h
+ended-outcome form order readers Prints bytes file (Limit kind) text short reads within h = absurd h
+ended-outcome form order readers Prints bytes file (Stopped at cause) text short reads within h = record { short = short; file = file; reads = reads; within = within; printed = h }
+ended-outcome form order readers Prints bytes file ReadFault text short reads within h = absurd h
+ended-outcome form order readers Prints bytes file WriteFault text short reads within h = absurd h
+ended-outcome form order readers Prints bytes file Memory text short reads within h = absurd h
+
+-- they say none within the limits
+pub refused-outcome : (form : Form) (order readers : ℕ) (Prints : TextFile → Option (ℕ × StopCause) → List ℕ → Type 0) (bytes : List ℕ) (status : Status) (text : List ℕ)
+    → IsRefusedIn form order readers bytes status text → IsOutcomeIn form order readers Prints bytes status text
+refused-outcome form order readers Prints bytes Done text h = absurd h.printed
+refused-outcome form order readers Prints bytes Words text h = absurd h
+refused-outcome form order readers Prints bytes (Text line kind) text h = h
+refused-outcome form order readers Prints bytes (Json kind) text h = h
+refused-outcome form order readers Prints bytes (Limit kind) text h = h
+refused-outcome form order readers Prints bytes (Stopped at cause) text h = absurd h.printed
+refused-outcome form order readers Prints bytes ReadFault text h = absurd h
+refused-outcome form order readers Prints bytes WriteFault text h = absurd h
+refused-outcome form order readers Prints bytes Memory text h = absurd h
 
 -- ---- `generate`
 

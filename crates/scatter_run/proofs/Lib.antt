@@ -3,6 +3,7 @@ pub mod CommandLine
 pub mod CompletedText
 pub mod GeneratedExample
 pub mod GeneratedFile
+pub mod HeldText
 pub mod OneAnswers
 pub mod OneForm
 pub mod OneOutcome

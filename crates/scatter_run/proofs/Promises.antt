@@ -1,20 +1,30 @@
 -- From what was read and given to what a job keeps.
 use Rattle.std.proofs.Common.{◌≡◌, ℕ, ◌-◌, ◌<◌, ◌^◌, refl, sym, ◌∙◌, subst, ◌⊎◌, inl, inr, List, [], arith}
-use Rattle.std.specs.Prelude.{Option, Some, None, IfSome}
+use Rattle.std.specs.Prelude.{Option, Some, None, IfSome, IfOk, Result, Ok, Err}
+use Rattle.std.specs.declared.alloc.AllocError.{AllocError}
 use Rattle.outside_io.specs.Outside.{Rose}
+use Rattle.scattering.specs.Stops.{StopCause}
 use Rattle.scatter_diagram.specs.Stopped.{cause_of}
+use Rattle.scatter_text.specs.declared.file.TextFile.{TextFile}
 use Rattle.scatter_text.specs.declared.fault.LimitKind.{LimitKind}
 use Rattle.scatter_text.specs.declared.fault.LimitKind.TheVariants.{Bytes}
 use Rattle.scatter_run.specs.declared.words.Job.{Job}
-use Rattle.scatter_run.specs.declared.words.Job.TheVariants.{Complete, Generate}
+use Rattle.scatter_run.specs.declared.words.Job.TheVariants.{Complete, Session, Generate}
 use Rattle.scatter_run.specs.declared.status.Status.{Status}
 use Rattle.scatter_run.specs.declared.status.Status.TheVariants.{Done, Words, Text, Json, Limit, Stopped, ReadFault, WriteFault, Memory}
 use Rattle.scatter_run.specs.declared.form.Form.{Form}
+use Rattle.scatter_run.specs.declared.form.Form.TheVariants as form
+use Rattle.scatter_run.specs.declared.answer.Answer.{Answer}
+use Rattle.scatter_run.specs.declared.reading.InputFault.{InputFault}
+use Rattle.scatter_run.specs.declared.reading.InputFault.TheVariants.{Failed, TooLong}
+use Rattle.scatter_run.specs.declared.reading.InputFault.TheVariants as input
+use Rattle.scatter_run.specs.Completed.{IsStopOf, IsCompletedText}
+use Rattle.scatter_run.specs.Held.{IsSessionText}
 use Rattle.scatter_run.specs.Words.{AreWordsOf, NameNoJob}
 use Rattle.scatter_run.specs.Reading.{IsReadWhole, IsTooLong}
 use Rattle.scatter_run.specs.Writing.{IsWritten, IsCutShort}
-use Rattle.scatter_run.specs.Outcome.{IsFormOutcome, IsLimited, IsFormAccepted, IsGenerateOutcome, IsUnstopped, IsJobOutcome, IsJobAccepted, SaysJobRead, IsRunOutcome, IsRunAccepted, SaysRunRead, IsVerdict, SaysRead, SaysNothing, read_fault_text, words_fault_text, limit_fault_text}
-use Rattle.scatter_run.specs.Promise.{IsKept, IsDue, IsGiven}
+use Rattle.scatter_run.specs.Outcome.{IsOutcomeIn, IsLimited, IsAcceptedIn, IsGenerateOutcome, IsUnstopped, IsJobOutcome, IsJobAccepted, SaysJobRead, IsRunOutcome, IsRunAccepted, SaysRunRead, IsVerdict, SaysRead, SaysNothing, read_fault_text, words_fault_text, limit_fault_text}
+use Rattle.scatter_run.specs.Promise.{IsKept, IsDue, IsGiven, IsAnswerGiven, IsFaultGiven}
 use Rattle.scatter_run.proofs.WordLists.{one-job}
 
 no-rise : (n m : ℕ) → n < 2 ^ 64 - 1 → Rose n m → m ≡ n → ⊥
@@ -155,7 +165,7 @@ module _ (Answers : List ℕ → Status → List ℕ → Type 0) (Accepts : List
   verdict_kept sole status result text small v a (inr g) =
       subst (λ (s : Status). IsKept Answers Accepts Says left rest f f' held after k k' s) (sym g.0) (cut_kept text small (due-of status text a) g.1 g.2)
 
--- ---- a completion in a form
+-- ---- a job that reads
 
 pub read-verdict : (status : Status) → SaysRead status → IsVerdict status
 read-verdict Done says = tt
@@ -168,67 +178,82 @@ read-verdict ReadFault says = absurd says
 read-verdict WriteFault says = absurd says
 read-verdict Memory says = absurd says
 
-pub form-sole : (form : Form) (order : ℕ) (bytes : List ℕ) (status : Status) (text : List ℕ) → IsFormOutcome form order bytes status text → IsFormAccepted form order bytes → status ≡ Done
-form-sole form order bytes Done text t ok = refl
-form-sole form order bytes Words text t ok = absurd t
-form-sole form order bytes (Text line kind) text t ok = absurd (ok.no_text_fault line kind t.fault)
-form-sole form order bytes (Json kind) text t ok = absurd (ok.no_json_fault kind t.fault)
-form-sole form order bytes (Limit kind) text t ok = absurd (passes t.0)
-  where
-    passes : IsLimited form order kind bytes → ⊥
-    passes (inl h) = let long = h.1 in let short = ok.short in omega (arith, long, short)
-    passes (inr p) = none-some kind (sym (ok.no_limit p.file p.reads) ∙ p.passed)
-form-sole form order bytes (Stopped at cause) text t ok =
-    absurd (ok.no_stop t.file t.completed.last.given (at, cause_of cause) t.reads t.completed.last.lines t.completed.last.first)
-form-sole form order bytes ReadFault text t ok = absurd t
-form-sole form order bytes WriteFault text t ok = absurd t
-form-sole form order bytes Memory text t ok = absurd t
+-- what it prints of a file tells what first stops the lines
+module _ (form : Form) (order readers : ℕ) (Prints : TextFile → Option (ℕ × StopCause) → List ℕ → Type 0)
+    (stops : (file : TextFile) (stop : Option (ℕ × StopCause)) (text : List ℕ) → Prints file stop text → IsStopOf file.lines order stop) where
+  abbrev Answers : List ℕ → Status → List ℕ → Type 0
+  Answers = IsOutcomeIn form order readers Prints
 
-pub form-verdict : (form : Form) (order : ℕ) (bytes : List ℕ) (status : Status) (text : List ℕ) → IsFormOutcome form order bytes status text → IsVerdict status
-form-verdict form order bytes Done text t = tt
-form-verdict form order bytes Words text t = tt
-form-verdict form order bytes (Text line kind) text t = tt
-form-verdict form order bytes (Json kind) text t = tt
-form-verdict form order bytes (Limit kind) text t = tt
-form-verdict form order bytes (Stopped at cause) text t = tt
-form-verdict form order bytes ReadFault text t = absurd t
-form-verdict form order bytes WriteFault text t = absurd t
-form-verdict form order bytes Memory text t = absurd t
+  abbrev Accepts : List ℕ → Type 0
+  Accepts = IsAcceptedIn form order readers
 
-pub form-not_words : (form : Form) (order : ℕ) (bytes : List ℕ) (status result : Status) (text : List ℕ) (held after : Option (List ℕ)) (k k' : ℕ)
-    → IsFormOutcome form order bytes status text → IsGiven held after k k' status text result → result ≡ Words → ⊥
-form-not_words form order bytes status result text held after k k' t (inl g) e = subst (λ (s : Status). IsFormOutcome form order bytes s text) (sym g.0 ∙ e) t
-form-not_words form order bytes status result text held after k k' t (inr g) e = differ (sym g.0 ∙ e)
-  where
-    differ : WriteFault ≡ Words → ⊥
-    differ d = cc
+  pub reading-sole : (bytes : List ℕ) (status : Status) (text : List ℕ) → Answers bytes status text → Accepts bytes → status ≡ Done
+  reading-sole bytes Done text t ok = refl
+  reading-sole bytes Words text t ok = absurd t
+  reading-sole bytes (Text line kind) text t ok = absurd (ok.no_text_fault line kind t.fault)
+  reading-sole bytes (Json kind) text t ok = absurd (ok.no_json_fault kind t.fault)
+  reading-sole bytes (Limit kind) text t ok = absurd (passes t.0)
+    where
+      passes : IsLimited form order readers kind bytes → ⊥
+      passes (inl h) = let long = h.1 in let short = ok.short in omega (arith, long, short)
+      passes (inr p) = none-some kind (sym (ok.no_limit p.file p.reads) ∙ p.passed)
+  reading-sole bytes (Stopped at cause) text t ok =
+      let s = stops t.file (Some (at, cause_of cause)) text t.printed in absurd (ok.no_stop t.file s.given (at, cause_of cause) t.reads s.lines s.first)
+  reading-sole bytes ReadFault text t ok = absurd t
+  reading-sole bytes WriteFault text t ok = absurd t
+  reading-sole bytes Memory text t ok = absurd t
 
-pub read-answered : (form : Form) (order : ℕ) (left rest : Option (List ℕ)) (bytes : List ℕ) (status : Status) (text : List ℕ) → IsReadWhole left rest bytes → IsFormOutcome form order bytes status text
-    → IfSome left (λ bytes. IsFormOutcome form order bytes status text × (SaysRead status → rest ≡ Some []))
-read-answered form order None rest bytes status text whole t = tt
-read-answered form order (Some all) rest bytes status text whole t =
-    (subst (λ (b : List ℕ). IsFormOutcome form order b status text) (sym whole.0) t, λ says. whole.1)
+  reading-verdict : (bytes : List ℕ) (status : Status) (text : List ℕ) → Answers bytes status text → IsVerdict status
+  reading-verdict bytes Done text t = tt
+  reading-verdict bytes Words text t = tt
+  reading-verdict bytes (Text line kind) text t = tt
+  reading-verdict bytes (Json kind) text t = tt
+  reading-verdict bytes (Limit kind) text t = tt
+  reading-verdict bytes (Stopped at cause) text t = tt
+  reading-verdict bytes ReadFault text t = absurd t
+  reading-verdict bytes WriteFault text t = absurd t
+  reading-verdict bytes Memory text t = absurd t
 
-pub long-answered : (form : Form) (order : ℕ) (left rest : Option (List ℕ)) → IsTooLong left
-    → IfSome left (λ bytes. IsFormOutcome form order bytes (Limit Bytes) (limit_fault_text Bytes) × (SaysRead (Limit Bytes) → rest ≡ Some []))
-long-answered form order None rest long = tt
-long-answered form order (Some bytes) rest long = ((inl (refl, long), refl), λ says. absurd (says refl))
+  read-answered : (left rest : Option (List ℕ)) (bytes : List ℕ) (status : Status) (text : List ℕ) → IsReadWhole left rest bytes → Answers bytes status text
+      → IfSome left (λ bytes. Answers bytes status text × (SaysRead status → rest ≡ Some []))
+  read-answered None rest bytes status text whole t = tt
+  read-answered (Some all) rest bytes status text whole t = (subst (λ (b : List ℕ). Answers b status text) (sym whole.0) t, λ says. whole.1)
 
-pub answer_kept : (form : Form) (order : ℕ) (left rest : Option (List ℕ)) (f f' : ℕ) (held after : Option (List ℕ)) (k k' : ℕ) (bytes seen text said : List ℕ) (status result : Status)
-    → k < 2 ^ 64 - 1 → IsReadWhole left rest bytes → seen ≡ bytes → IsFormOutcome form order seen status text → said ≡ text → IsGiven held after k k' status said result
-    → IsKept (IsFormOutcome form order) (IsFormAccepted form order) SaysRead left rest f f' held after k k' result
-answer_kept form order left rest f f' held after k k' bytes seen text said status result small whole e t e' g =
-    verdict_kept (IsFormOutcome form order) (IsFormAccepted form order) SaysRead read-verdict left rest f f' held after k k' (form-sole form order) status result said small
-    (form-verdict form order seen status text t)
-    (read-answered form order left rest bytes status said whole
-    (subst (λ (b : List ℕ). IsFormOutcome form order b status said) e (subst (λ (x : List ℕ). IsFormOutcome form order seen status x) (sym e') t))) g
+  long-answered : (left rest : Option (List ℕ)) → IsTooLong left → IfSome left (λ bytes. Answers bytes (Limit Bytes) (limit_fault_text Bytes) × (SaysRead (Limit Bytes) → rest ≡ Some []))
+  long-answered None rest long = tt
+  long-answered (Some bytes) rest long = ((inl (refl, long), refl), λ says. absurd (says refl))
 
-pub long_kept : (form : Form) (order : ℕ) (left rest : Option (List ℕ)) (f f' : ℕ) (held after : Option (List ℕ)) (k k' : ℕ) (result : Status)
-    → k < 2 ^ 64 - 1 → IsTooLong left → IsGiven held after k k' (Limit Bytes) (limit_fault_text Bytes) result
-    → IsKept (IsFormOutcome form order) (IsFormAccepted form order) SaysRead left rest f f' held after k k' result
-long_kept form order left rest f f' held after k k' result small long g =
-    verdict_kept (IsFormOutcome form order) (IsFormAccepted form order) SaysRead read-verdict left rest f f' held after k k' (form-sole form order) (Limit Bytes) result (limit_fault_text Bytes) small tt
-    (long-answered form order left rest long) g
+  module _ (left rest : Option (List ℕ)) (f f' : ℕ) (held after : Option (List ℕ)) (k k' : ℕ) (result : Status) (small : k < 2 ^ 64 - 1) where
+    abbrev Keeps : Status → Type 0
+    Keeps status = IsKept Answers Accepts SaysRead left rest f f' held after k k' status
+
+    memory-wanted : f' ≡ f → (result ≡ Memory) × (after ≡ held) × (k' ≡ k) → Keeps result
+    memory-wanted same m = subst Keeps (sym m.0) (memory_kept Answers Accepts SaysRead read-verdict left rest f f' held after k k' same m.1 m.2)
+
+    -- the bytes were read, and answered
+    pub answered_kept : (bytes seen : List ℕ) (answered : Result Answer AllocError) → f' ≡ f → IsReadWhole left rest bytes → seen ≡ bytes
+        → IfOk answered (λ a. Answers seen a.status a.text.items) → IsAnswerGiven held after k k' answered result → Keeps result
+    answered_kept bytes seen (Ok a) same whole e t g =
+        verdict_kept Answers Accepts SaysRead read-verdict left rest f f' held after k k' reading-sole a.status result a.text.items small (reading-verdict seen a.status a.text.items t)
+        (read-answered left rest bytes a.status a.text.items whole (subst (λ (b : List ℕ). Answers b a.status a.text.items) e t)) g
+    answered_kept bytes seen (Err error) same whole e t g = memory-wanted same g
+
+    -- there are no bytes
+    pub fault_kept : (fault : InputFault) → f < 2 ^ 64 - 1 → (fault ≡ Failed → Rose f f') → (fault ≡ TooLong → IsTooLong left) → (fault ≡ input.Memory → f' ≡ f)
+        → IsFaultGiven held after k k' fault result → Keeps result
+    fault_kept Failed small' rose long same g = read_kept Answers Accepts SaysRead read-verdict left rest f f' held after k k' result small' small (rose refl) g
+    fault_kept TooLong small' rose long same g =
+        verdict_kept Answers Accepts SaysRead read-verdict left rest f f' held after k k' reading-sole (Limit Bytes) result (limit_fault_text Bytes) small tt
+        (long-answered left rest (long refl)) g
+    fault_kept input.Memory small' rose long same g = memory-wanted (same refl) g
+
+-- ---- what was printed tells the first stop
+
+pub completed-stops : (form : Form) (order : ℕ) (file : TextFile) (stop : Option (ℕ × StopCause)) (text : List ℕ) → IsCompletedText form order file stop text → IsStopOf file.lines order stop
+completed-stops form order file stop text h = record { given = h.last.given; lines = h.last.lines; first = h.last.first }
+
+pub session-stops : (order : ℕ) (file : TextFile) (stop : Option (ℕ × StopCause)) (text : List ℕ) → IsSessionText order file stop text → IsStopOf file.lines order stop
+session-stops order file stop text h = h.stopped
 
 -- ---- `generate`
 
@@ -261,13 +286,16 @@ quiet status says = absurd says
 abbrev pub IsKeptUnread : (Status → List ℕ → Type 0) → Type 0 → Option (List ℕ) → Option (List ℕ) → ℕ → ℕ → Status → Type 0
 IsKeptUnread Answers Accepts held after k k' result = IsKept (λ bytes. Answers) (λ bytes. Accepts) SaysNothing (Some []) (Some []) 0 0 held after k k' result
 
-pub generate_kept : (number : ℕ) (held after : Option (List ℕ)) (k k' : ℕ) (text said : List ℕ) (status result : Status)
-    → k < 2 ^ 64 - 1 → IsGenerateOutcome number status text → said ≡ text → IsGiven held after k k' status said result
+pub generate_kept : (number : ℕ) (held after : Option (List ℕ)) (k k' : ℕ) (answered : Result Answer AllocError) (result : Status)
+    → k < 2 ^ 64 - 1 → IfOk answered (λ a. IsGenerateOutcome number a.status a.text.items) → IsAnswerGiven held after k k' answered result
     → IsKeptUnread (IsGenerateOutcome number) (IsUnstopped number) held after k k' result
-generate_kept number held after k k' text said status result small t e g =
+generate_kept number held after k k' (Ok a) result small t g =
     verdict_kept (λ bytes. IsGenerateOutcome number) (λ bytes. IsUnstopped number) SaysNothing quiet (Some []) (Some []) 0 0 held after k k'
-    (λ bytes s x y ok. generate-sole number s x y ok) status result said small (generate-verdict number status text t)
-    (subst (λ (x : List ℕ). IsGenerateOutcome number status x) (sym e) t, λ says. absurd says) g
+    (λ bytes s x y ok. generate-sole number s x y ok) a.status result a.text.items small (generate-verdict number a.status a.text.items t)
+    (t, λ says. absurd says) g
+generate_kept number held after k k' (Err error) result small t g =
+    subst (IsKeptUnread (IsGenerateOutcome number) (IsUnstopped number) held after k k') (sym g.0)
+    (memory_kept (λ bytes. IsGenerateOutcome number) (λ bytes. IsUnstopped number) SaysNothing quiet (Some []) (Some []) 0 0 held after k k' refl g.1 g.2)
 
 never-rose : Rose 0 0 → ⊥
 never-rose rose = omega (arith, rose)
@@ -304,15 +332,18 @@ says-same : (words : List (List ℕ)) (job other : Job) (status : Status) → Ar
 says-same words job other status a b says = subst (λ (j : Job). SaysJobRead j status) (one-job words job other a b) says
 
 job-sole : (job : Job) (bytes : List ℕ) (status : Status) (text : List ℕ) → IsJobOutcome job bytes status text → IsJobAccepted job bytes → status ≡ Done
-job-sole (Complete f o w) bytes status text t ok = form-sole f o bytes status text t ok
+job-sole (Complete f o w) bytes status text t ok = reading-sole f o 1 (IsCompletedText f o) (completed-stops f o) bytes status text t ok
+job-sole (Session o w r) bytes status text t ok = reading-sole form.Asks o r (IsSessionText o) (session-stops o) bytes status text t ok
 job-sole (Generate n) bytes status text t ok = generate-sole n status text t ok
 
 job-not_words : (job : Job) (bytes text : List ℕ) → IsJobOutcome job bytes Words text → ⊥
 job-not_words (Complete f o w) bytes text t = t
+job-not_words (Session o w r) bytes text t = t
 job-not_words (Generate n) bytes text t = t
 
 job-verdict : (job : Job) (status : Status) → SaysJobRead job status → IsVerdict status
 job-verdict (Complete f o w) status says = read-verdict status says
+job-verdict (Session o w r) status says = read-verdict status says
 job-verdict (Generate n) status says = absurd says
 
 pub run-verdict : (words : List (List ℕ)) (status : Status) → SaysRunRead words status → IsVerdict status
@@ -321,6 +352,7 @@ run-verdict words status says = job-verdict says.0 status says.2
 -- none says that it read where the words are refused
 job-reads_words : (job : Job) → SaysJobRead job Words → ⊥
 job-reads_words (Complete f o w) says = says
+job-reads_words (Session o w r) says = says
 job-reads_words (Generate n) says = says
 
 -- ---- the words

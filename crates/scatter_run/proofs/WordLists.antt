@@ -10,9 +10,9 @@ use Rattle.clap.specs.Words.{takes}
 use Rattle.scatter_run.specs.Form.{form_word}
 use Rattle.scatter_run.specs.declared.form.Form.{Form}
 use Rattle.scatter_run.specs.declared.form.Form.TheVariants as form
-use Rattle.scatter_run.specs.Words.{AreCompleteWords, AreGenerateWords, AreWordsOf, NameNoJob}
+use Rattle.scatter_run.specs.Words.{AreCompleteWords, AreSessionWords, AreGenerateWords, AreWordsOf, NameNoJob}
 use Rattle.scatter_run.specs.declared.words.Job.{Job}
-use Rattle.scatter_run.specs.declared.words.Job.TheVariants.{Complete, Generate}
+use Rattle.scatter_run.specs.declared.words.Job.TheVariants.{Complete, Session, Generate}
 use Rattle.scatter_run.proofs.CommandLine.{IsPlain, ArePlain, taken}
 
 pub if-none : {A : Type 0} (o : Option A) (P : Type 0) → P → IfNone o P
@@ -21,18 +21,26 @@ if-none (Some a) P p = tt
 
 -- ---- words of no job
 
--- each job has a word, and one or two numbers
-pub names-none : (words : List (List ℕ)) → (length words ≡ 2 → ⊥) → (length words ≡ 3 → ⊥) → NameNoJob words
-names-none words two three (Complete f o w) a = three (ap length a.words)
-names-none words two three (Generate n) a = two (ap length a.words)
+-- each job has a word, and one to three numbers
+pub names-none : (words : List (List ℕ)) → (length words ≡ 2 → ⊥) → (length words ≡ 3 → ⊥) → (length words ≡ 4 → ⊥) → NameNoJob words
+names-none words two three four (Complete f o w) a = three (ap length a.words)
+names-none words two three four (Session o w r) a = four (ap length a.words)
+names-none words two three four (Generate n) a = two (ap length a.words)
 
 -- ---- words name one job
 
-apart : (words : List (List ℕ)) (f : Form) (o w n : ℕ) → AreCompleteWords words f o w → AreGenerateWords words n → ⊥
-apart words f o w n a b =
-    let l : length words ≡ 3 = ap length a.words in
-    let k : length words ≡ 2 = ap length b.words in
-    omega (arith, l, k)
+-- by how many there are
+apart : (words : List (List ℕ)) (n m : ℕ) → (n ≡ m → ⊥) → length words ≡ n → length words ≡ m → ⊥
+apart words n m differ e f = differ (sym e ∙ f)
+
+complete-count : (words : List (List ℕ)) (f : Form) (o w : ℕ) → AreCompleteWords words f o w → length words ≡ 3
+complete-count words f o w a = ap length a.words
+
+session-count : (words : List (List ℕ)) (o w r : ℕ) → AreSessionWords words o w r → length words ≡ 4
+session-count words o w r a = ap length a.words
+
+generate-count : (words : List (List ℕ)) (n : ℕ) → AreGenerateWords words n → length words ≡ 2
+generate-count words n a = ap length a.words
 
 pub same-number : (words : List (List ℕ)) (n m : ℕ) → AreGenerateWords words n → AreGenerateWords words m → n ≡ m
 same-number words n m a b =
@@ -61,8 +69,21 @@ one-job words (Complete f o w) (Complete f' o' w') a b =
     let g : o' ≡ o = decimal_injective o' o (omega (arith, y)) (omega (arith, x)) cc in
     let k : w' ≡ w = decimal_injective w' w (omega (arith, v)) (omega (arith, u)) cc in
     λ i. Complete (h i) (g i) (k i)
-one-job words (Complete f o w) (Generate n) a b = absurd (apart words f o w n a b)
-one-job words (Generate n) (Complete f o w) a b = absurd (apart words f o w n b a)
+one-job words (Complete f o w) (Session o' w' r) a b = absurd (apart words 3 4 (λ e. cc) (complete-count words f o w a) (session-count words o' w' r b))
+one-job words (Complete f o w) (Generate n) a b = absurd (apart words 3 2 (λ e. cc) (complete-count words f o w a) (generate-count words n b))
+one-job words (Session o w r) (Complete f o' w') a b = absurd (apart words 4 3 (λ e. cc) (session-count words o w r a) (complete-count words f o' w' b))
+one-job words (Session o w r) (Session o' w' r') a b =
+    let e : codes "session" ∷ decimal o' ∷ decimal w' ∷ decimal r' ∷ [] ≡ codes "session" ∷ decimal o ∷ decimal w ∷ decimal r ∷ [] = sym b.words ∙ a.words in
+    let x = a.order_most in let y = b.order_most in
+    let u = a.workers_most in let v = b.workers_most in
+    let p = a.readers_most in let q = b.readers_most in
+    let g : o' ≡ o = decimal_injective o' o (omega (arith, y)) (omega (arith, x)) cc in
+    let k : w' ≡ w = decimal_injective w' w (omega (arith, v)) (omega (arith, u)) cc in
+    let l : r' ≡ r = decimal_injective r' r (omega (arith, q)) (omega (arith, p)) cc in
+    λ i. Session (g i) (k i) (l i)
+one-job words (Session o w r) (Generate n) a b = absurd (apart words 4 2 (λ e. cc) (session-count words o w r a) (generate-count words n b))
+one-job words (Generate n) (Complete f o w) a b = absurd (apart words 2 3 (λ e. cc) (generate-count words n a) (complete-count words f o w b))
+one-job words (Generate n) (Session o w r) a b = absurd (apart words 2 4 (λ e. cc) (generate-count words n a) (session-count words o w r b))
 one-job words (Generate n) (Generate m) a b = ap (λ (k : ℕ). Generate k) (same-number words m n b a)
 
 -- ---- no job's word begins with a hyphen
@@ -95,6 +116,9 @@ pub job-plain : (words : List (List ℕ)) (job : Job) → AreWordsOf words job �
 job-plain words (Complete f o w) a =
     let x = a.order_most in let y = a.workers_most in
     subst ArePlain (sym a.words) (form-plain f, (decimal-plain o (omega (arith, x)), (decimal-plain w (omega (arith, y)), tt)))
+job-plain words (Session o w r) a =
+    let x = a.order_most in let y = a.workers_most in let z = a.readers_most in
+    subst ArePlain (sym a.words) (refl, (decimal-plain o (omega (arith, x)), (decimal-plain w (omega (arith, y)), (decimal-plain r (omega (arith, z)), tt))))
 job-plain words (Generate n) a =
     let x = a.number_most in
     subst ArePlain (sym a.words) (refl, (decimal-plain n (omega (arith, x)), tt))
@@ -103,6 +127,9 @@ pub job-taken : (words : List (List ℕ)) (job : Job) → AreWordsOf words job �
 job-taken words (Complete f o w) a =
     let p = subst ArePlain a.words (job-plain words (Complete f o w) a) in
     subst (λ (ws : List (List ℕ)). takes command_line ws ≡ true) (sym a.words) (taken (form_word f) (decimal o ∷ decimal w ∷ []) p.0 p.1 refl)
+job-taken words (Session o w r) a =
+    let p = subst ArePlain a.words (job-plain words (Session o w r) a) in
+    subst (λ (ws : List (List ℕ)). takes command_line ws ≡ true) (sym a.words) (taken (codes "session") (decimal o ∷ decimal w ∷ decimal r ∷ []) p.0 p.1 refl)
 job-taken words (Generate n) a =
     let p = subst ArePlain a.words (job-plain words (Generate n) a) in
     subst (λ (ws : List (List ℕ)). takes command_line ws ≡ true) (sym a.words) (taken (codes "generate") (decimal n ∷ []) p.0 p.1 refl)

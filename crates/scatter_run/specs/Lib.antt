@@ -2,6 +2,8 @@ pub mod Asked
 pub mod Completed
 pub mod Form
 pub mod Generated
+pub mod Held
+pub mod Checked
 pub mod Outcome
 pub mod Promise
 pub mod Reading

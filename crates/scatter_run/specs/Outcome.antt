@@ -16,14 +16,15 @@ use Rattle.scatter_json.specs.JsonForm.{json_word}
 use Rattle.scatter_run.specs.declared.form.Form.{Form}
 use Rattle.scatter_run.specs.declared.form.Form.TheVariants as form
 use Rattle.scatter_run.specs.Form.{IsFileIn, IsBadTextIn, IsBadJsonIn}
-use Rattle.scatter_text.specs.Limits.{limit_of, limit_word}
+use Rattle.scatter_text.specs.Limits.{first_limit, limit_word}
 use Rattle.scatter_run.specs.Completed.{IsCompletedText, IsSummary}
 use Rattle.scatter_run.specs.Generated.{generated_lines, generated_order}
+use Rattle.scatter_run.specs.Held.{IsSessionText}
 use Rattle.scatter_text.specs.DiagramText.{line_of}
 use Rattle.scatter_text.specs.GivenWalls.{IsWallOf}
 use Rattle.scatter_run.specs.Words.{AreWordsOf, NameNoJob}
 use Rattle.scatter_run.specs.declared.words.Job.{Job}
-use Rattle.scatter_run.specs.declared.words.Job.TheVariants.{Complete, Generate}
+use Rattle.scatter_run.specs.declared.words.Job.TheVariants.{Complete, Session, Generate}
 use Rattle.scatter_run.specs.declared.status.Status.{Status}
 use Rattle.scatter_run.specs.declared.status.Status.TheVariants.{Done, Words, Text, Json, Limit, Stopped, ReadFault, WriteFault, Memory}
 
@@ -52,19 +53,25 @@ bad_text line kind = fault_text (codes "text" ∷ decimal line ∷ kind_word kin
 abbrev pub bad_json_text : JsonKind → List ℕ
 bad_json_text kind = fault_text (codes "json" ∷ json_word kind ∷ [])
 
--- what is printed of a file, and how that ends
-abbrev pub IsEnded : Form → TextFile → ℕ → Status → List ℕ → Type 0
-IsEnded form file order Done text = IsCompletedText form file order None text
-IsEnded form file order (Stopped at cause) text = IsCompletedText form file order (Some (at, cause_of cause)) text
-IsEnded form file order status text = ⊥
+-- how it ends to print this of what stopped a completion first
+abbrev pub IsEnded : (Option (ℕ × StopCause) → List ℕ → Type 0) → Status → List ℕ → Type 0
+IsEnded Prints Done text = Prints None text
+IsEnded Prints (Stopped at cause) text = Prints (Some (at, cause_of cause)) text
+IsEnded Prints status text = ⊥
 
--- the bytes say in this form a file within the limits, and the text is printed of the last completed order of its lines up to the one asked, and of what stopped the next
-pub record HasCompleted (form : Form) (order : ℕ) (stop : Option (ℕ × StopCause)) (bytes text : List ℕ) : Type 0 where
+-- What a job prints of a file, by what stopped the completion of its lines first: `Prints` below.
+--     form        the form of the bytes
+--     order       the order that is asked
+--     readers     how many readers asks may name
+
+-- the bytes say in this form a file within the limits, of which the text is printed
+pub record HasPrinted (form : Form) (order readers : ℕ) (Prints : TextFile → Option (ℕ × StopCause) → List ℕ → Type 0)
+    (stop : Option (ℕ × StopCause)) (bytes text : List ℕ) : Type 0 where
   pub short : length bytes ≤ most_bytes
   pub file : TextFile
   pub reads : IsFileIn form bytes file
-  pub within : limit_of file order ≡ None
-  pub completed : IsCompletedText form file order stop text
+  pub within : first_limit file order readers ≡ None
+  pub printed : Prints file stop text
 
 pub record IsBadText (form : Form) (line : ℕ) (kind : TextKind) (bytes text : List ℕ) : Type 0 where
   pub short : length bytes ≤ most_bytes
@@ -76,29 +83,50 @@ pub record IsBadJson (form : Form) (kind : JsonKind) (bytes text : List ℕ) : T
   pub fault : IsBadJsonIn form bytes kind
   pub says : text ≡ bad_json_text kind
 
-pub record PassesLimit (form : Form) (order : ℕ) (kind : LimitKind) (bytes : List ℕ) : Type 0 where
+pub record PassesLimit (form : Form) (order readers : ℕ) (kind : LimitKind) (bytes : List ℕ) : Type 0 where
   pub short : length bytes ≤ most_bytes
   pub file : TextFile
   pub reads : IsFileIn form bytes file
-  pub passed : limit_of file order ≡ Some kind
+  pub passed : first_limit file order readers ≡ Some kind
 
 -- the bytes are too many, or say a file that passes the limit
-abbrev pub IsLimited : Form → ℕ → LimitKind → List ℕ → Type 0
-IsLimited form order kind bytes = ((kind ≡ Bytes) × (most_bytes < length bytes)) ⊎ PassesLimit form order kind bytes
+abbrev pub IsLimited : Form → ℕ → ℕ → LimitKind → List ℕ → Type 0
+IsLimited form order readers kind bytes = ((kind ≡ Bytes) × (most_bytes < length bytes)) ⊎ PassesLimit form order readers kind bytes
 
--- what a completion in this form with this order answers on these bytes, and the text that it prints; the number of workers doesn't count
+-- what the job answers on these bytes, and the text that it prints
+abbrev pub IsOutcomeIn : Form → ℕ → ℕ → (TextFile → Option (ℕ × StopCause) → List ℕ → Type 0) → List ℕ → Status → List ℕ → Type 0
+IsOutcomeIn form order readers Prints bytes Done text = HasPrinted form order readers Prints None bytes text
+IsOutcomeIn form order readers Prints bytes (Stopped at cause) text = HasPrinted form order readers Prints (Some (at, cause_of cause)) bytes text
+IsOutcomeIn form order readers Prints bytes (Text line kind) text = IsBadText form line kind bytes text
+IsOutcomeIn form order readers Prints bytes (Json kind) text = IsBadJson form kind bytes text
+IsOutcomeIn form order readers Prints bytes (Limit kind) text = IsLimited form order readers kind bytes × (text ≡ limit_fault_text kind)
+IsOutcomeIn form order readers Prints bytes Words text = ⊥
+IsOutcomeIn form order readers Prints bytes ReadFault text = ⊥
+IsOutcomeIn form order readers Prints bytes WriteFault text = ⊥
+IsOutcomeIn form order readers Prints bytes Memory text = ⊥
+
+-- where the bytes say no file within the limits
+abbrev pub IsRefusedIn : Form → ℕ → ℕ → List ℕ → Status → List ℕ → Type 0
+IsRefusedIn form order readers = IsOutcomeIn form order readers (λ file stop text. ⊥)
+
+-- nothing is wrong with the bytes in this form, and nothing stops the completion of their lines up to the order
+pub record IsAcceptedIn (form : Form) (order readers : ℕ) (bytes : List ℕ) : Type 0 where
+  pub short : length bytes ≤ most_bytes
+  pub no_text_fault : (line : ℕ) (kind : TextKind) → IsBadTextIn form bytes line kind → ⊥
+  pub no_json_fault : (kind : JsonKind) → IsBadJsonIn form bytes kind → ⊥
+  pub no_limit : (file : TextFile) → IsFileIn form bytes file → first_limit file order readers ≡ None
+  pub no_stop : (file : TextFile) (given : List Wall) (stop : ℕ × StopCause)
+      → IsFileIn form bytes file → AllZip IsWallOf file.lines given → IsFirstStop given order (Some stop) → ⊥
+
+-- ---- what each job that reads answers and accepts; the number of workers doesn't count
+
+-- a completion in a form has one reader
 abbrev pub IsFormOutcome : Form → ℕ → List ℕ → Status → List ℕ → Type 0
-IsFormOutcome form order bytes Done text = HasCompleted form order None bytes text
-IsFormOutcome form order bytes (Stopped at cause) text = HasCompleted form order (Some (at, cause_of cause)) bytes text
-IsFormOutcome form order bytes (Text line kind) text = IsBadText form line kind bytes text
-IsFormOutcome form order bytes (Json kind) text = IsBadJson form kind bytes text
-IsFormOutcome form order bytes (Limit kind) text = IsLimited form order kind bytes × (text ≡ limit_fault_text kind)
-IsFormOutcome form order bytes Words text = ⊥
-IsFormOutcome form order bytes ReadFault text = ⊥
-IsFormOutcome form order bytes WriteFault text = ⊥
-IsFormOutcome form order bytes Memory text = ⊥
+IsFormOutcome form order = IsOutcomeIn form order 1 (IsCompletedText form order)
 
--- what `complete`, `complete-json` and `theta` answer
+abbrev pub IsFormAccepted : Form → ℕ → List ℕ → Type 0
+IsFormAccepted form order = IsAcceptedIn form order 1
+
 abbrev pub IsCompleteOutcome : ℕ → List ℕ → Status → List ℕ → Type 0
 IsCompleteOutcome = IsFormOutcome form.Text
 
@@ -108,16 +136,6 @@ IsJsonOutcome = IsFormOutcome form.Json
 abbrev pub IsThetaOutcome : ℕ → List ℕ → Status → List ℕ → Type 0
 IsThetaOutcome = IsFormOutcome form.Asks
 
--- nothing is wrong with the bytes in this form, and nothing stops the completion of their lines up to the order
-pub record IsFormAccepted (form : Form) (order : ℕ) (bytes : List ℕ) : Type 0 where
-  pub short : length bytes ≤ most_bytes
-  pub no_text_fault : (line : ℕ) (kind : TextKind) → IsBadTextIn form bytes line kind → ⊥
-  pub no_json_fault : (kind : JsonKind) → IsBadJsonIn form bytes kind → ⊥
-  pub no_limit : (file : TextFile) → IsFileIn form bytes file → limit_of file order ≡ None
-  pub no_stop : (file : TextFile) (given : List Wall) (stop : ℕ × StopCause)
-      → IsFileIn form bytes file → AllZip IsWallOf file.lines given → IsFirstStop given order (Some stop) → ⊥
-
--- what these accept
 abbrev pub IsAccepted : ℕ → List ℕ → Type 0
 IsAccepted = IsFormAccepted form.Text
 
@@ -126,6 +144,13 @@ IsJsonAccepted = IsFormAccepted form.Json
 
 abbrev pub IsThetaAccepted : ℕ → List ℕ → Type 0
 IsThetaAccepted = IsFormAccepted form.Asks
+
+-- a session with so many readers reads what `theta` reads
+abbrev pub IsSessionOutcome : ℕ → ℕ → List ℕ → Status → List ℕ → Type 0
+IsSessionOutcome order readers = IsOutcomeIn form.Asks order readers (IsSessionText order)
+
+abbrev pub IsSessionAccepted : ℕ → ℕ → List ℕ → Type 0
+IsSessionAccepted order readers = IsAcceptedIn form.Asks order readers
 
 -- ---- what `generate` answers, which reads no bytes
 
@@ -177,16 +202,19 @@ code_of Memory = 7
 -- what each job answers, and the text that it prints
 abbrev pub IsJobOutcome : Job → List ℕ → Status → List ℕ → Type 0
 IsJobOutcome (Complete form order workers) = IsFormOutcome form order
+IsJobOutcome (Session order workers readers) = IsSessionOutcome order readers
 IsJobOutcome (Generate number) = λ bytes. IsGenerateOutcome number
 
 -- the bytes that each job accepts
 abbrev pub IsJobAccepted : Job → List ℕ → Type 0
 IsJobAccepted (Complete form order workers) = IsFormAccepted form order
+IsJobAccepted (Session order workers readers) = IsSessionAccepted order readers
 IsJobAccepted (Generate number) = λ bytes. IsUnstopped number
 
 -- the statuses by which each job says that its source was read to its end
 abbrev pub SaysJobRead : Job → Status → Type 0
 SaysJobRead (Complete form order workers) = SaysRead
+SaysJobRead (Session order workers readers) = SaysRead
 SaysJobRead (Generate number) = SaysNothing
 
 -- the words are those of a job, whose outcome it is; or they are of none

@@ -1,10 +1,17 @@
 -- What a job keeps of its source, its sink and its status.
-use Rattle.std.specs.Prelude.{◌≡◌, ℕ, ◌⊎◌, List, [], Option, Some, IfSome}
+use Rattle.std.specs.Prelude.{◌≡◌, ℕ, ◌⊎◌, List, [], Option, Some, IfSome, Result, Ok, Err}
 use Rattle.outside_io.specs.Outside.{Rose}
-use Rattle.scatter_run.specs.Outcome.{IsRunOutcome, IsVerdict, SaysNothing, read_fault_text}
+use Rattle.scatter_run.specs.Words.{NameNoSession}
+use Rattle.scatter_run.specs.Outcome.{IsRunOutcome, IsVerdict, SaysNothing, limit_fault_text, read_fault_text}
+use Rattle.std.specs.declared.alloc.AllocError.{AllocError}
+use Rattle.scatter_text.specs.declared.fault.LimitKind.TheVariants.{Bytes}
+use Rattle.scatter_run.specs.declared.answer.Answer.{Answer}
+use Rattle.scatter_run.specs.declared.reading.InputFault.{InputFault}
+use Rattle.scatter_run.specs.declared.reading.InputFault.TheVariants.{Failed, TooLong}
+use Rattle.scatter_run.specs.declared.reading.InputFault.TheVariants as input
 use Rattle.scatter_run.specs.Writing.{IsWritten, IsCutShort}
 use Rattle.scatter_run.specs.declared.status.Status.{Status}
-use Rattle.scatter_run.specs.declared.status.Status.TheVariants.{Done, ReadFault, WriteFault, Memory}
+use Rattle.scatter_run.specs.declared.status.Status.TheVariants.{Done, Limit, ReadFault, WriteFault, Memory}
 
 -- a text with this fact was written, where the sink tells
 abbrev pub HasWritten : Option (List ℕ) → Option (List ℕ) → (List ℕ → Type 0) → Type 0
@@ -55,11 +62,11 @@ KeepsPromiseUnread held refused sink sink' Answers Accepts status =
 abbrev pub IsUntouched : {S : Type 0} → (S → Option (List ℕ)) → (S → ℕ) → S → S → Type 0
 IsUntouched left misread source source' = (left source' ≡ left source) × (misread source' ≡ misread source)
 
--- an outcome of the words and the bytes that are left has this status, and its text was written
+-- an outcome of the words and the bytes that are left has this status, and its text was written where the words name no session
 abbrev pub IsOnlyOutcome : List (List ℕ) → Option (List ℕ) → Option (List ℕ) → Option (List ℕ) → Status → Type 0
 IsOnlyOutcome words left held after result =
     IfSome left (λ bytes. IsVerdict result → (status : Status) (text : List ℕ) → IsRunOutcome words bytes status text
-    → (status ≡ result) × IsWritten held after text)
+    → (status ≡ result) × (NameNoSession words → IsWritten held after text))
 
 -- ---- between reading and writing
 
@@ -67,3 +74,14 @@ IsOnlyOutcome words left held after result =
 abbrev pub IsGiven : Option (List ℕ) → Option (List ℕ) → ℕ → ℕ → Status → List ℕ → Status → Type 0
 IsGiven held after before now status text result =
     ((result ≡ status) × IsWritten held after text) ⊎ ((result ≡ WriteFault) × Rose before now × IsCutShort held after text)
+
+-- the same of what was answered; or memory was wanting, and nothing was written
+abbrev pub IsAnswerGiven : Option (List ℕ) → Option (List ℕ) → ℕ → ℕ → Result Answer AllocError → Status → Type 0
+IsAnswerGiven held after before now (Ok answer) result = IsGiven held after before now answer.status answer.text.items result
+IsAnswerGiven held after before now (Err error) result = (result ≡ Memory) × (after ≡ held) × (now ≡ before)
+
+-- the same of why there are no bytes
+abbrev pub IsFaultGiven : Option (List ℕ) → Option (List ℕ) → ℕ → ℕ → InputFault → Status → Type 0
+IsFaultGiven held after before now Failed result = IsGiven held after before now ReadFault read_fault_text result
+IsFaultGiven held after before now TooLong result = IsGiven held after before now (Limit Bytes) (limit_fault_text Bytes) result
+IsFaultGiven held after before now input.Memory result = (result ≡ Memory) × (after ≡ held) × (now ≡ before)

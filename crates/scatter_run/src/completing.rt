@@ -2,6 +2,7 @@
 ghost use Rattle.std.specs.Prelude.{◌≡◌, ◌≤◌, None, IfOk};
 ghost use Rattle.limits.specs.Limits.{highest_order, most_workers};
 ghost use Rattle.scatter_text.specs.Limits.{limit_of};
+ghost use Rattle.scatter_run.specs.Completed.{IsCompletedText};
 ghost use Rattle.scatter_run.specs.Outcome.{IsEnded, ends_with};
 
 use crate::answer::Answer;
@@ -39,7 +40,8 @@ pub(crate) fn complete<R: Threads + Sync, G: Gate>(
     requires some { 1 ≤ workers }
     requires few { workers ≤ most_workers }
     requires within { limit_of file.now order ≡ None }
-    ensures { IfOk result (λ a. IsEnded form file.now order a.status a.text.items) }
+    ensures { IfOk result
+        (λ a. IsEnded (IsCompletedText form order file.now) a.status a.text.items) }
 {
     let initial = initial_of(alloc, file)?;
     let outcome = complete_by_workers(rt, alloc, &initial, order, workers, gate)?;

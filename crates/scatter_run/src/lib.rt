@@ -6,6 +6,7 @@ mod completing;
 mod form;
 mod generating;
 mod generator;
+mod holding;
 mod jobs;
 mod laws;
 mod printing;
@@ -14,6 +15,6 @@ mod status;
 mod words;
 mod writing;
 
-pub use jobs::{complete_job, generate_job, json_job, run, theta_job};
+pub use jobs::{complete_job, generate_job, json_job, run, session_job, theta_job};
 pub use laws::one_outcome;
 pub use status::Status;

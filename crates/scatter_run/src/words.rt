@@ -11,7 +11,7 @@ use crate::form::Form;
 use clap::error::ErrorKind;
 use clap::{Arg, ArgAction, ArgMatches, Command};
 use itoa::Buffer;
-use limits::{HIGHEST_ORDER, MOST_WORKERS};
+use limits::{HIGHEST_ORDER, MOST_READERS, MOST_WORKERS};
 use std::alloc::{AllocError, Global};
 
 /// The largest number that `generate` takes.
@@ -25,6 +25,12 @@ pub(crate) enum Job {
         form: Form,
         order: u32,
         workers: u32,
+    },
+    /// `session ORDER WORKERS READERS`.
+    Session {
+        order: u32,
+        workers: u32,
+        readers: u32,
     },
     /// `generate N`.
     Generate {
@@ -97,6 +103,7 @@ fn job_of(job: &str, numbers: &[&str]) -> Option<Job>
     ensures none { IfNone result (NameNoJob (job.now ∷ map (λ n. n.now) numbers.now)) }
 {
     match numbers {
+        [order, workers, readers] => session_of(job, order, workers, readers),
         [order, workers] => complete_of(job, order, workers),
         [number] => generate_of(job, number),
         _ => None,
@@ -132,6 +139,26 @@ fn form_of(job: &str) -> Option<Form>
     } else {
         None
     }
+}
+
+/// `session` with these numbers, if they are in range.
+fn session_of(job: &str, order: &str, workers: &str, readers: &str) -> Option<Job>
+    ensures job { IfSome result
+        (AreWordsOf (job.now ∷ order.now ∷ workers.now ∷ readers.now ∷ [])) }
+    ensures none { IfNone result
+        (NameNoJob (job.now ∷ order.now ∷ workers.now ∷ readers.now ∷ [])) }
+{
+    if !is_same(job, "session") {
+        return None;
+    }
+    let order = read_number(order, 0, HIGHEST_ORDER + 1)?;
+    let workers = read_number(workers, 1, MOST_WORKERS + 1)?;
+    let readers = read_number(readers, 1, MOST_READERS + 1)?;
+    Some(Job::Session {
+        order,
+        workers,
+        readers,
+    })
 }
 
 /// `generate` with this number, if it is in range.

@@ -6,6 +6,7 @@ use outside_io::{MemSink, MemSource, OpenGate};
 use scatter_run::run;
 use std::alloc::Global;
 use std::io::Write;
+use std::sync::Wait;
 use std::thread::Threads;
 use std::{fs, io};
 
@@ -28,7 +29,7 @@ fn main(rt: HostRuntime) -> io::Result<()> {
 }
 
 /// Runs the command on the input, and prints its status and what it wrote.
-fn show_run<R: Threads + Sync + Print + Alloc<A = Global>>(
+fn show_run<R: Threads + Wait + Sync + Print + Alloc<A = Global>>(
     rt: &R,
     command: &str,
     input: Vec<u8>,

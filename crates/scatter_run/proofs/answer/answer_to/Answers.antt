@@ -1,12 +1,21 @@
--- Each answer with its cause.
-use Rattle.std.proofs.Common.{Vec, Global, ℕ, ap, sym, ◌∙◌, inr}
+-- A file within the limits is completed, and a refusal is the answer.
+use Rattle.std.proofs.Common.{subst}
 use Rattle.std.proofs.lemmas.Result.{IfOk-weaker}
-use Rattle.scatter_run.proofs.CompletedText.{job-outcome}
+use Rattle.scatter_run.specs.declared.answer.Checked.TheVariants.{File}
+use Rattle.scatter_run.specs.Checked.{IsChecked}
+use Rattle.scatter_run.specs.Completed.{IsCompletedText}
+use Rattle.scatter_run.proofs.CompletedText.{ended-outcome, refused-outcome}
 use Rattle.scatter_run.proofs.answer.answer_to.Goals as goal
 
-pub returns-in-None : goal.returns-in-None
-returns-in-None g c =
-    IfOk-weaker c.complete.result _ _ (λ a h. job-outcome c.args.form c.args.order c.args.bytes.now c.in-Ok.file a.status _ c.requires.short c.in-Ok.ensures.file (sym c.check_limits.ensures ∙ c.in-None.is) h) c.complete.ensures
+pub returns-in-File : goal.returns-in-File
+returns-in-File g c =
+    let bytes = c.args.bytes.now in
+    let h : IsChecked c.args.form c.args.order 1 bytes (File c.in-File.file) = subst (IsChecked c.args.form c.args.order 1 bytes) c.in-File.is c.in_ok-file.ensures in
+    IfOk-weaker c.complete.result _ _
+    (λ a e. ended-outcome c.args.form c.args.order 1 (IsCompletedText c.args.form c.args.order) bytes c.in-File.file a.status a.text.items c.requires.short h.0 h.1 e) c.complete.ensures
 
-pub returns-in-Ok : goal.returns-in-Ok
-returns-in-Ok g c = (inr (record { short = c.requires.short; file = c.in-Ok.file; reads = c.in-Ok.ensures.file; passed = sym c.check_limits.ensures ∙ c.in-Some.is }), ap (λ (v : Vec ℕ Global). v.items) c.into_bytes.ensures.value ∙ c.in_ok-limit_fault-in-Some.ensures)
+pub returns-in-Refused : goal.returns-in-Refused
+returns-in-Refused g c =
+    let bytes = c.args.bytes.now in
+    refused-outcome c.args.form c.args.order 1 (IsCompletedText c.args.form c.args.order) bytes c.in-Refused.answer.status c.in-Refused.answer.text.items
+    (subst (IsChecked c.args.form c.args.order 1 bytes) c.in-Refused.is c.in_ok-file.ensures)

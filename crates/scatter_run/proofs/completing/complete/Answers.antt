@@ -5,6 +5,7 @@ use Rattle.scatter_diagram.specs.Stopped.{stop_of}
 use Rattle.scatter_text.proofs.AskQueries.{asks-within-first-limit, few-within-first-limit}
 use Rattle.scatter_run.specs.Form.{IsPrintedIn}
 use Rattle.scatter_run.specs.declared.status.Status.{Status}
+use Rattle.scatter_run.specs.Completed.{IsCompletedText}
 use Rattle.scatter_run.specs.Outcome.{IsEnded}
 use Rattle.scatter_run.proofs.CompletedText.{ended}
 use Rattle.scatter_run.proofs.completing.complete.Goals as goal
@@ -23,5 +24,5 @@ returns g c =
     let printed : IsPrintedIn c.args.form c.args.file.now.asks c.in_ok-initial.initial.vars last.order last.diagram (stop_of stop) text =
     subst (λ (e : SeenDiagram). IsPrintedIn c.args.form c.args.file.now.asks c.in_ok-initial.initial.vars e.order e.diagram (stop_of stop) text) c.diagram-last.ensures.value
     (subst (λ (n : ℕ). IsPrintedIn c.args.form c.args.file.now.asks n c.diagram-last.result.now.order c.diagram-last.result.now.diagram (stop_of stop) text) c.vars-vars.ensures.value c.in_ok-text.ensures) in
-    subst (λ (s : Status). IsEnded c.args.form c.args.file.now c.args.order s text) c.status_of.ensures
+    subst (λ (s : Status). IsEnded (IsCompletedText c.args.form c.args.order c.args.file.now) s text) c.status_of.ensures
     (ended c.args.form c.args.file.now c.args.order c.in_ok-initial.initial c.in_ok-outcome.outcome text c.requires.order c.in_ok-initial.ensures c.in_ok-outcome.ensures printed)

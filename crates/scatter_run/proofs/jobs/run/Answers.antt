@@ -1,7 +1,7 @@
 -- The job's promises are those of its words.
 use Rattle.std.proofs.Common.{subst, ℕ}
 use Rattle.scatter_run.specs.Words.{AreWordsOf, word_bytes}
-use Rattle.scatter_run.specs.declared.words.Job.TheVariants.{Complete, Generate}
+use Rattle.scatter_run.specs.declared.words.Job.TheVariants.{Complete, Session, Generate}
 use Rattle.scatter_run.specs.Outcome.{IsGenerateOutcome, IsUnstopped}
 use Rattle.scatter_run.proofs.WordLists.{same-number}
 use Rattle.scatter_run.proofs.Promises.{IsKeptUnread, any_source_kept, job_kept, words_kept}
@@ -20,6 +20,19 @@ returns-in-Ok-Some-Complete-clause-one g c =
     written-one (word_bytes c.args.words.now) (g.S.Source.left c.args.source.now) _ _ c.form_job.result
     (job_kept (word_bytes c.args.words.now) (Complete h.form h.order h.workers) _ _ _ _ _ _ _ _ c.form_job.result
     (subst (AreWordsOf (word_bytes c.args.words.now)) h.field-0-0-is (rw h.field-0-is at h.ensures.job)) c.form_job.ensures.promise).outcome
+
+pub returns-in-Ok-Some-Session-clause-promise : goal.returns-in-Ok-Some-Session-clause-promise
+returns-in-Ok-Some-Session-clause-promise g c =
+    let h = c.in-Ok-Some-Session in
+    job_kept (word_bytes c.args.words.now) (Session h.order h.workers h.readers) _ _ _ _ _ _ _ _ c.session_job.result
+    (subst (AreWordsOf (word_bytes c.args.words.now)) h.field-0-0-is (rw h.field-0-is at h.ensures.job)) c.session_job.ensures.promise
+
+pub returns-in-Ok-Some-Session-clause-one : goal.returns-in-Ok-Some-Session-clause-one
+returns-in-Ok-Some-Session-clause-one g c =
+    let h = c.in-Ok-Some-Session in
+    written-one (word_bytes c.args.words.now) (g.S.Source.left c.args.source.now) _ _ c.session_job.result
+    (job_kept (word_bytes c.args.words.now) (Session h.order h.workers h.readers) _ _ _ _ _ _ _ _ c.session_job.result
+    (subst (AreWordsOf (word_bytes c.args.words.now)) h.field-0-0-is (rw h.field-0-is at h.ensures.job)) c.session_job.ensures.promise).outcome
 
 pub returns-in-Ok-Some-Generate-clause-promise : goal.returns-in-Ok-Some-Generate-clause-promise
 returns-in-Ok-Some-Generate-clause-promise g c =

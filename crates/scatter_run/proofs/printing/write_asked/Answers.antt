@@ -1,9 +1,8 @@
 -- The answers to the queries of the file's asks are printed.
-use Rattle.std.proofs.Common.{ℕ, ◌≤◌, List, length, subst, arith}
+use Rattle.std.proofs.Common.{ℕ, List, subst}
 use Rattle.std.specs.List.{AllZip}
 use Rattle.std.proofs.lemmas.Result.{IfOk-weaker}
 use Rattle.std.proofs.lemmas.Slice.Zip.{AllZip-long}
-use Rattle.limits.specs.Limits.{most_asks}
 use Rattle.scattering.specs.Wall.{walls}
 use Rattle.scatter_diagram.specs.Stopped.{stop_of}
 use Rattle.theta_algebra.specs.declared.query.Query.{Query}

@@ -16,13 +16,13 @@ words-are f job numbers p q = ap₂ words_after (p ∙ first_value-rows f (codes
 
 pub returns-in_err-job-clause-none : goal.returns-in_err-job-clause-none
 returns-in_err-job-clause-none c =
-    if-none c.from_residual.result _ (subst NameNoJob (words-are (found_of c.args.matches.now) None _ c.in_err-job.ensures refl) (names-none [] (λ e. cc) (λ e. cc)))
+    if-none c.from_residual.result _ (subst NameNoJob (words-are (found_of c.args.matches.now) None _ c.in_err-job.ensures refl) (names-none [] (λ e. cc) (λ e. cc) (λ e. cc)))
 
 pub returns-in_err-numbers-clause-none : goal.returns-in_err-numbers-clause-none
 returns-in_err-numbers-clause-none c =
     let job = c.in_ok-job.job.now in
     if-none c.from_residual-in_err-numbers.result _
-    (subst NameNoJob (words-are (found_of c.args.matches.now) (Some job) None c.in_ok-job.ensures c.in_err-numbers.ensures) (names-none (job ∷ []) (λ e. cc) (λ e. cc)))
+    (subst NameNoJob (words-are (found_of c.args.matches.now) (Some job) None c.in_ok-job.ensures c.in_err-numbers.ensures) (names-none (job ∷ []) (λ e. cc) (λ e. cc) (λ e. cc)))
 
 pub returns-clause-job : goal.returns-clause-job
 returns-clause-job c =
